@@ -1,0 +1,24 @@
+-- Tests and what they show.
+use mathlib.Core.Path.{_≡_, refl}
+use mathlib.Core.Bool.{Bool, true, false, _&&_, not}
+use lib.Dec.{T}
+
+pub true-of : (b : Bool) → T b → b ≡ true
+true-of true t = refl
+true-of false t = absurd t
+
+pub false-of : (b : Bool) → T (not b) → b ≡ false
+false-of true t = absurd t
+false-of false t = refl
+
+pub left-of : (a b : Bool) → T (a && b) → T a
+left-of true b t = tt
+left-of false b t = absurd t
+
+pub right-of : (a b : Bool) → T (a && b) → T b
+right-of true b t = t
+right-of false b t = absurd t
+
+pub both : (a b : Bool) → T a → T b → T (a && b)
+both true b p q = q
+both false b p q = absurd p

@@ -1,0 +1,90 @@
+-- 01, 'Bytes and items': the item that stands at a byte, from that byte and the bytes r that follow it in the slice.
+use Prim.Native.Nat.{ℕ, zero, suc, _+_, _*_, _-_, _^_}
+use Prim.Native.Char.{code}
+use mathlib.Core.Bool.{Bool, true, false, _||_, cond}
+use mathlib.Core.List.{List, [], _∷_}
+use lib.IntN.{ℤ, pos, negsuc, negℤ}
+use lib.Dec.{ltb, eqb}
+use Rattle.format.specs.Byte as B
+use Rattle.format.specs.Byte.{Class, classOf, hasClass}
+
+-- an item; a number says how many of the bytes in r belong to it, for marked text without its closing mark
+pub data Item : Type 0 where
+  whiteItem : Item
+  commentItem atomItem stringItem tagItem : ℕ → Item
+  integerItem : ℤ → ℕ → Item
+  openItem closeItem tildeItem hashItem ampersandItem endItem : Item
+  -- with the register's byte
+  storeItem pushItem : ℕ → Item
+  -- refusals 3, 4 and 5: the slice ends inside the item; a byte not allowed there, so many bytes on; integer out of range
+  cut : Item
+  stray : ℕ → Item
+  tooLarge : Item
+
+-- what a look for a closing mark finds: the slice's end, or, so many bytes on, a byte not allowed there or the mark
+pub data Scan : Type 0 where
+  ended : Scan
+  strayAt closedAt : ℕ → Scan
+
+-- a backslash must be followed by a backslash or by the mark; k bytes are passed, and `escaped` says that a backslash is the last
+unfoldable pub scan : ℕ → Bool → ℕ → List ℕ → Scan
+scan mark escaped k [] = ended
+scan mark true k (c ∷ r) = elim (eqb c (code "\\") || eqb c mark) [ true ↦ scan mark false (suc k) r | false ↦ strayAt k ]
+scan mark false k (c ∷ r) = elim (eqb c mark) [ true ↦ closedAt k | false ↦ scan mark (eqb c (code "\\")) (suc k) r ]
+
+unfoldable pub markedItem : (ℕ → Item) → Scan → Item
+markedItem item ended = cut
+markedItem item (strayAt k) = stray (suc k)
+markedItem item (closedAt k) = item k
+
+unfoldable pub marked : ℕ → (ℕ → Item) → List ℕ → Item
+marked mark item r = markedItem item (scan mark false 0 r)
+
+-- what a run of digits comes to: the slice's end, or a value and the count of bytes passed
+pub data Digits : Type 0 where
+  unfinished : Digits
+  value : ℕ → ℕ → Digits
+
+-- as many digits as there are, after k bytes that are worth v
+unfoldable pub digits : ℕ → ℕ → List ℕ → Digits
+digits v k [] = unfinished
+digits v k (c ∷ r) = elim (hasClass B.digit c) [ true ↦ digits (v * 10 + (c - code "0")) (suc k) r | false ↦ value v k ]
+
+unfoldable pub inRange : ℤ → Bool
+inRange (pos n) = ltb n (2 ^ 63)
+inRange (negsuc n) = ltb n (2 ^ 63)
+
+unfoldable pub integerOf : (ℕ → ℤ) → Digits → Item
+integerOf sign unfinished = cut
+integerOf sign (value v k) = cond (inRange (sign v)) (integerItem (sign v) k) tooLarge
+
+-- after a minus: a digit has to come
+unfoldable pub negative : List ℕ → Item
+negative [] = cut
+negative (c ∷ r) = cond (hasClass B.digit c) (integerOf (λ v. negℤ (pos v)) (digits (c - code "0") 1 r)) (stray 1)
+
+-- after `>`: the register byte, at once
+unfoldable pub store : List ℕ → Item
+store [] = cut
+store (c ∷ r) = cond (hasClass B.register c) (storeItem c) (stray 1)
+
+unfoldable pub itemOf : Class → ℕ → List ℕ → Item
+itemOf B.white c r = whiteItem
+itemOf B.digit c r = integerOf (λ v. pos v) (digits (c - code "0") 0 r)
+itemOf B.minus c r = negative r
+itemOf B.atomMark c r = marked (code "'") atomItem r
+itemOf B.stringMark c r = marked (code "\"") stringItem r
+itemOf B.tagMark c r = marked (code "`") tagItem r
+itemOf B.commentMark c r = marked (code "%") commentItem r
+itemOf B.leftBrace c r = openItem
+itemOf B.rightBrace c r = closeItem
+itemOf B.tilde c r = tildeItem
+itemOf B.hash c r = hashItem
+itemOf B.ampersand c r = ampersandItem
+itemOf B.dollar c r = endItem
+itemOf B.greater c r = store r
+itemOf B.comma c r = stray 0
+itemOf B.register c r = pushItem c
+
+unfoldable pub lex : ℕ → List ℕ → Item
+lex c r = itemOf (classOf c) c r

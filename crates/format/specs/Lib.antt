@@ -1,0 +1,11 @@
+pub mod Byte
+pub mod Term
+pub mod Text
+pub mod Lex
+pub mod Machine
+pub mod Meaning
+pub mod Rows
+pub mod Sound
+pub mod Word
+pub mod Answer
+pub mod Bench
