@@ -53,7 +53,7 @@ cleared t rows = record { rows = rowsIn (t .rows) rows; stack = zeroed (t .stack
 unfoldable pub decodeRefusal : ℕ → ℕ → Tables → Decoded
 decodeRefusal number place t = record { number = number; place = place; root = 0; used = 0; tables = t }
 
-unfoldable pub decodeResult : Tables → M.Answer (Result rowValues) → Decoded
+unfoldable pub decodeResult : Tables → M.Outcome (Result rowValues) → Decoded
 decodeResult t (refused number place) = decodeRefusal number place (cleared t [])
 decodeResult t (accepted consumed r) = record { number = 0; place = consumed; root = r .root; used = r .rows; tables = cleared t (r .store) }
 

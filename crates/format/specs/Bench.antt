@@ -37,7 +37,7 @@ lend rows stack marks = record {
 }
 
 -- what the decoder's answer and the machine at terms say together
-unfoldable pub claimOf : Decoded → M.Answer (Result termValues) → Claim
+unfoldable pub claimOf : Decoded → M.Outcome (Result termValues) → Claim
 claimOf d (refused n p) = cond (eqb (d .number) n && eqb (d .place) p) (refusal n p) disagree
 claimOf d (accepted k r) =
     cond (eqb (d .number) 0 && eqb (d .place) k && eqb (d .used) (r .rows))

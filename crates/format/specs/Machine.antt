@@ -35,10 +35,10 @@ pub record Limits : Type 0 where
   pub stack : ℕ
   pub marks : ℕ
 
--- an answer: refused with a number at a place, or accepted after so many bytes
-pub data Answer (A : Type 0) : Type 0 where
-  refused : ℕ → ℕ → Answer A
-  accepted : ℕ → A → Answer A
+-- what comes of a message: refused with a number at a place, or accepted after so many bytes
+pub data Outcome (A : Type 0) : Type 0 where
+  refused : ℕ → ℕ → Outcome A
+  accepted : ℕ → A → Outcome A
 
 -- the depth above which every pop must lie: the mark noted last
 unfoldable pub base : List ℕ → ℕ
@@ -151,7 +151,7 @@ module _ (𝒱 : Values) where
       (go k w m)))
 
   -- what comes of a step: a refusal, what comes next, or what the end gives
-  unfoldable pub follow : {A : Type 0} → Step → (ℕ → ℕ → Machine → Answer A) → (𝒱 .Value → Answer A) → Answer A
+  unfoldable pub follow : {A : Type 0} → Step → (ℕ → ℕ → Machine → Outcome A) → (𝒱 .Value → Outcome A) → Outcome A
   follow (refuse n p) next end = refused n p
   follow (go k w m) next end = next k w m
   follow (finish v) next end = end v
@@ -163,7 +163,7 @@ module _ (𝒱 : Values) where
     pub store : 𝒱 .Store
 
   -- the message from `at` on: `skip` bytes of it belong to an item already done, and `used` rows are made
-  unfoldable pub runFrom : Limits → List ℕ → ℕ → ℕ → ℕ → Machine → Answer Result
+  unfoldable pub runFrom : Limits → List ℕ → ℕ → ℕ → ℕ → Machine → Outcome Result
   runFrom lim [] skip at used m = refused 3 at
   runFrom lim (c ∷ r) (suc k) at used m = runFrom lim r k (suc at) used m
   runFrom lim (c ∷ r) zero at used m =
@@ -172,14 +172,14 @@ module _ (𝒱 : Values) where
       (λ v. accepted (suc at) (record { rows = used; root = v; store = m .store }))
 
   -- a message under limits
-  unfoldable pub run : Limits → List ℕ → Answer Result
+  unfoldable pub run : Limits → List ℕ → Outcome Result
   run lim message = runFrom lim message 0 0 0 start
 
   -- the same with no limit and no count
-  unfoldable pub runFreeFrom : List ℕ → ℕ → ℕ → Machine → Answer (𝒱 .Value)
+  unfoldable pub runFreeFrom : List ℕ → ℕ → ℕ → Machine → Outcome (𝒱 .Value)
   runFreeFrom [] skip at m = refused 3 at
   runFreeFrom (c ∷ r) (suc k) at m = runFreeFrom r k (suc at) m
   runFreeFrom (c ∷ r) zero at m = follow (step at r m (lex c r)) (λ k w m′. runFreeFrom r k (suc at) m′) (λ v. accepted (suc at) v)
 
-  unfoldable pub runFree : List ℕ → Answer (𝒱 .Value)
+  unfoldable pub runFree : List ℕ → Outcome (𝒱 .Value)
   runFree message = runFreeFrom message 0 0 start

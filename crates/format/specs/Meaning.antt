@@ -7,7 +7,7 @@ use lib.IntN.{ℤ}
 use Rattle.format.specs.Term as T
 use Rattle.format.specs.Term.{Term, Terms, _then_, termsFrom}
 use Rattle.format.specs.Machine as M
-use Rattle.format.specs.Machine.{Shape, Values, Answer, refused, accepted, runFree}
+use Rattle.format.specs.Machine.{Shape, Values, Outcome, refused, accepted, runFree}
 
 -- a tagged integer no longer serves as a count, nor a tagged list as a list
 unfoldable pub termInteger : Term → Option ℤ
@@ -59,7 +59,7 @@ termValues = record {
   isList = λ s v. termIsList v;
 }
 
-unfoldable pub acceptedValue : {A : Type 0} → Answer A → Option A
+unfoldable pub acceptedValue : {A : Type 0} → Outcome A → Option A
 acceptedValue (refused n p) = none
 acceptedValue (accepted k v) = some v
 
