@@ -1,4 +1,14 @@
 pub mod Tests
+pub mod Lists
 pub mod Table
 pub mod Bench
 pub mod Items
+pub mod Moves
+pub mod Simulation
+pub mod SoundRows
+pub mod Limits
+pub mod Appended
+pub mod FreeRun
+pub mod ReadBack
+pub mod Sizes
+pub mod Rounds

@@ -1,0 +1,163 @@
+-- What a step can be, each with what is known there, so that an invariant of the machine is proved move by move.
+use Prim.Native.Nat.{ℕ, zero, suc, _+_, _-_, _≤_, _<_}
+use Prim.Native.Char.{code}
+use mathlib.Core.Path.{_≡_, refl, ap, _∙_}
+use mathlib.Core.Bool.{Bool, true, false, cond}
+use mathlib.Core.Option.{Option, none, some}
+use mathlib.Core.List.{List, [], _∷_, reverse}
+use native.Mathlib.Omega.{arith}
+use lib.IntN.{ℤ, pos, negsuc}
+use lib.ListN.{length, take, drop, getD}
+use lib.Dec.{eqb, ltb, leb, T}
+use borrow.Author.Tests.{ltb-false, leb-false}
+use Rattle.format.specs.Lex as L
+use Rattle.format.specs.Lex.{Item, inRange, lex}
+use Rattle.format.specs.Machine as M
+use Rattle.format.specs.Machine.{Values, Machine, Shape, Limits, Step, Outcome, Result, base, refuse, go, finish, refused, accepted}
+use Rattle.format.proofs.Items.{ItemOk, Marked, lex-ok}
+
+module _ (𝒱 : Values) (at : ℕ) (r : List ℕ) (m : Machine 𝒱) where
+  -- the value v popped from the stack, above the base, and the stack st under it
+  pub record Popped (stack : List (𝒱 .Value)) (v : 𝒱 .Value) (st : List (𝒱 .Value)) : Type 0 where
+    pub splits : stack ≡ v ∷ st
+    pub above : base (m .marks) ≤ length st
+
+  -- the shapes of which one row is made, with the stack that the new value comes on
+  pub data Making : Shape (𝒱 .Value) → List (𝒱 .Value) → Type 0 where
+    integers : (z : ℤ) → T (inRange z) → Making (M.integer z) (m .stack)
+    atoms : (k : ℕ) → Marked (code "'") r k → Making (M.atom (suc at) (take k r)) (m .stack)
+    strings : (k : ℕ) → Marked (code "\"") r k → Making (M.string (suc at) (take k r)) (m .stack)
+    binaries : (n : ℕ) (v : 𝒱 .Value) {st : List (𝒱 .Value)} → Popped (m .stack) v st → 𝒱 .integerIn (m .store) v ≡ some (pos n) → n < length r
+        → Making (M.binary (suc at) (take n r)) st
+    nils : Making M.nil (m .stack)
+    conses : (v l : 𝒱 .Value) {mid st : List (𝒱 .Value)} → Popped (m .stack) v mid → Popped mid l st → 𝒱 .isList (m .store) l ≡ true → Making (M.cons v l) st
+    tags : (k : ℕ) (v : 𝒱 .Value) {st : List (𝒱 .Value)} → Popped (m .stack) v st → Marked (code "`") r k → Making (M.tag (suc at) (take k r) v) st
+
+  pub data Move : Step 𝒱 → Type 0 where
+    stops : (n p : ℕ) → Move (refuse n p)
+    rests : (k : ℕ) → Move (go k 0 m)
+    makes : (k : ℕ) {shape : Shape (𝒱 .Value)} {st : List (𝒱 .Value)} → Making shape st → Move (go k 1 (M.fresh 𝒱 at shape st (m .marks) m))
+    opens : Move (go 0 0 (record { stack = m .stack; marks = length (m .stack) ∷ m .marks; registers = m .registers; store = m .store }))
+    tuples : (d k : ℕ) (ds : List ℕ) → m .marks ≡ d ∷ ds → d + k ≡ length (m .stack)
+        → Move (go 0 (suc k) (M.fresh 𝒱 at (M.tuple (reverse (take k (m .stack)))) (drop k (m .stack)) ds m))
+    stores : (x : ℕ) (v : 𝒱 .Value) {st : List (𝒱 .Value)} → Popped (m .stack) v st
+        → Move (go 1 0 (record { stack = st; marks = m .marks; registers = M.setRegister 𝒱 x v (m .registers); store = m .store }))
+    pushes : (x : ℕ) (v : 𝒱 .Value) → m .registers x ≡ some v → Move (go 0 0 (M.onStack 𝒱 (v ∷ m .stack) m))
+    ends : (v : 𝒱 .Value) → m .stack ≡ v ∷ [] → Move (finish v)
+
+  -- a test that refuses, or goes on where it fails
+  unless : (c : Bool) (n p : ℕ) (s : Step 𝒱) → (c ≡ false → Move s) → Move (cond c (refuse n p) s)
+  unless true n p s f = stops n p
+  unless false n p s f = f refl
+
+  -- a test that goes on where it holds, or refuses
+  only-if : (c : Bool) (n p : ℕ) (s : Step 𝒱) → (c ≡ true → Move s) → Move (cond c s (refuse n p))
+  only-if true n p s f = f refl
+  only-if false n p s f = stops n p
+
+  pop-move : (stack : List (𝒱 .Value)) (next : 𝒱 .Value → List (𝒱 .Value) → Step 𝒱)
+      → ((v : 𝒱 .Value) (st : List (𝒱 .Value)) → Popped stack v st → Move (next v st)) → Move (M.pop 𝒱 at (m .marks) stack next)
+  unfolding M.pop
+  pop-move [] next f = stops 6 at
+  pop-move (v ∷ st) next f =
+      unless (ltb (length st) (base (m .marks))) 6 at (next v st) (λ e. f v st (record { splits = refl; above = ltb-false (length st) (base (m .marks)) e }))
+
+  binary-move : (v : 𝒱 .Value) (st : List (𝒱 .Value)) → Popped (m .stack) v st → (o : Option ℤ) → 𝒱 .integerIn (m .store) v ≡ o → Move (M.takeBinary 𝒱 at r m st o)
+  unfolding M.takeBinary
+  binary-move v st p none e = stops 7 at
+  binary-move v st p (some (negsuc n)) e = stops 8 at
+  binary-move v st p (some (pos n)) e =
+      unless (leb (length r) n) 3 (suc at + length r) _ (λ l.
+      only-if (eqb (getD r n 0) (code "~")) 4 (suc at + n) _ (λ t. makes (suc n) (binaries n v p e (leb-false (length r) n l))))
+
+  cons-move : (v l : 𝒱 .Value) (mid st : List (𝒱 .Value)) → Popped (m .stack) v mid → Popped mid l st → Move (M.consList 𝒱 at m v l st)
+  unfolding M.consList
+  cons-move v l mid st p q = only-if (𝒱 .isList (m .store) l) 7 at _ (λ t. makes 0 (conses v l p q t))
+
+  close-move : (ds : List ℕ) → m .marks ≡ ds → Move (M.closeTuple 𝒱 at m ds)
+  unfolding M.closeTuple
+  close-move [] e = stops 10 at
+  close-move (d ∷ ds) e =
+      unless (ltb (length (m .stack)) d) 17 at _ (λ l. tuples d (length (m .stack) - d) ds e (omega (arith, ltb-false (length (m .stack)) d l)))
+
+  push-move : (x : ℕ) (o : Option (𝒱 .Value)) → m .registers x ≡ o → Move (M.pushRegister 𝒱 at m o)
+  unfolding M.pushRegister
+  push-move x none e = stops 9 at
+  push-move x (some v) e = pushes x v e
+
+  only-move : (st : List (𝒱 .Value)) → m .stack ≡ st → Move (M.onlyValue 𝒱 at st)
+  unfolding M.onlyValue
+  only-move [] e = stops 11 at
+  only-move (v ∷ []) e = ends v e
+  only-move (v ∷ w ∷ st) e = stops 11 at
+
+  end-move : (ds : List ℕ) → Move (M.endMessage 𝒱 at m ds)
+  unfolding M.endMessage
+  end-move [] = only-move (m .stack) refl
+  end-move (d ∷ ds) = stops 10 at
+
+  pub move : (i : Item) → ItemOk r i → Move (M.step 𝒱 at r m i)
+  unfolding M.step
+  move L.whiteItem h = rests 0
+  move (L.commentItem k) h = rests (suc k)
+  move (L.atomItem k) h = makes (suc k) (atoms k h)
+  move (L.stringItem k) h = makes (suc k) (strings k h)
+  move (L.tagItem k) h = pop-move (m .stack) _ (λ v st p. makes (suc k) (tags k v p h))
+  move (L.integerItem z k) h = makes k (integers z (h .0))
+  move L.openItem h = opens
+  move L.closeItem h = close-move (m .marks) refl
+  move L.tildeItem h = pop-move (m .stack) _ (λ v st p. binary-move v st p (𝒱 .integerIn (m .store) v) refl)
+  move L.hashItem h = makes 0 nils
+  move L.ampersandItem h = pop-move (m .stack) _ (λ v mid p. pop-move mid _ (λ l st q. cons-move v l mid st p q))
+  move L.endItem h = end-move (m .marks)
+  move (L.storeItem x) h = pop-move (m .stack) _ (λ v st p. stores x v p)
+  move (L.pushItem x) h = push-move x (m .registers x) refl
+  move L.cut h = stops 3 (suc at + length r)
+  move (L.stray k) h = stops 4 (at + k)
+  move L.tooLarge h = stops 5 at
+
+-- An invariant of offset, bytes to come, rows used and machine that every byte passed and every move keeps holds at the end.
+module _ (𝒱 : Values) (lim : Limits) (Inv : ℕ → List ℕ → ℕ → Machine 𝒱 → Type 0) (End : ℕ → Result 𝒱 → Type 0) where
+  abbrev pub Next : ℕ → List ℕ → ℕ → Machine 𝒱 → Step 𝒱 → Type 0
+  Next at r used m (refuse n p) = Unit {0}
+  Next at r used m (go k w m′) = Inv (suc at) r (used + w) m′
+  Next at r used m (finish v) = End (suc at) (record { rows = used; root = v; store = m .store })
+
+  abbrev pub AtEnd : Outcome (Result 𝒱) → Type 0
+  AtEnd (refused n p) = Unit {0}
+  AtEnd (accepted k res) = End k res
+
+  next-unless : (at : ℕ) (r : List ℕ) (used : ℕ) (m : Machine 𝒱) (c : Bool) (n p : ℕ) (s : Step 𝒱) → Next at r used m s → Next at r used m (cond c (refuse n p) s)
+  next-unless at r used m true n p s h = tt
+  next-unless at r used m false n p s h = h
+
+  next-bounded : (at : ℕ) (r : List ℕ) (used : ℕ) (m : Machine 𝒱) (s : Step 𝒱) → Next at r used m s → Next at r used m (M.bounded 𝒱 lim at used s)
+  unfolding M.bounded
+  next-bounded at r used m (refuse n p) h = tt
+  next-bounded at r used m (finish v) h = h
+  next-bounded at r used m (go k w m′) h =
+      next-unless at r used m (ltb (lim .rows) (used + w)) 12 at _
+      (next-unless at r used m (ltb (lim .stack) (length (m′ .stack))) 13 at _ (next-unless at r used m (ltb (lim .marks) (length (m′ .marks))) 14 at (go k w m′) h))
+
+  next-follow : (at : ℕ) (r : List ℕ) (used : ℕ) (m : Machine 𝒱) (next : ℕ → ℕ → Machine 𝒱 → Outcome (Result 𝒱)) (end : 𝒱 .Value → Outcome (Result 𝒱))
+      → ((k w : ℕ) (m′ : Machine 𝒱) → Inv (suc at) r (used + w) m′ → AtEnd (next k w m′))
+      → ((v : 𝒱 .Value) → End (suc at) (record { rows = used; root = v; store = m .store }) → AtEnd (end v))
+      → (s : Step 𝒱) → Next at r used m s → AtEnd (M.follow 𝒱 s next end)
+  unfolding M.follow
+  next-follow at r used m next end f g (refuse n p) h = tt
+  next-follow at r used m next end f g (go k w m′) h = f k w m′ h
+  next-follow at r used m next end f g (finish v) h = g v h
+
+  module _ (pass : (at c : ℕ) (r : List ℕ) (used : ℕ) (m : Machine 𝒱) → Inv at (c ∷ r) used m → Inv (suc at) r used m)
+      (keeps : (at c : ℕ) (r : List ℕ) (used : ℕ) (m : Machine 𝒱) → Inv at (c ∷ r) used m → (s : Step 𝒱) → Move 𝒱 at r m s → Next at r used m s) where
+    holds-from : (s : List ℕ) (skip at used : ℕ) (m : Machine 𝒱) → Inv at s used m → AtEnd (M.runFrom 𝒱 lim s skip at used m)
+    unfolding M.runFrom
+    holds-from [] skip at used m h = tt
+    holds-from (c ∷ r) (suc k) at used m h = holds-from r k (suc at) used m (pass at c r used m h)
+    holds-from (c ∷ r) zero at used m h =
+        next-follow at r used m _ _ (λ k w m′ h′. holds-from r k (suc at) (used + w) m′ h′) (λ v h′. h′) _
+        (next-bounded at r used m _ (keeps at c r used m h _ (move 𝒱 at r m (lex c r) (lex-ok c r))))
+
+    pub holds : (message : List ℕ) → Inv 0 message 0 (M.start 𝒱) → AtEnd (M.run 𝒱 lim message)
+    unfolding M.run
+    holds message h = holds-from message 0 0 0 (M.start 𝒱) h
