@@ -4,11 +4,15 @@ pub mod Table
 pub mod Bench
 pub mod Items
 pub mod Moves
+pub mod Growth
 pub mod Simulation
 pub mod SoundRows
 pub mod Limits
-pub mod Appended
+pub mod RowCount
+pub mod Decoded
+pub mod SoundTerms
 pub mod FreeRun
 pub mod ReadBack
+pub mod Appended
 pub mod Sizes
 pub mod Rounds

@@ -1,22 +1,18 @@
--- The limits only ever refuse with 12, 13 or 14; with enough room they change nothing; rows used are at most twice the bytes consumed.
-use Prim.Native.Nat.{ℕ, zero, suc, _+_, _-_, _*_, _≤_, _<_}
-use mathlib.Core.Path.{_≡_, refl, ap, sym, _∙_, subst}
+-- What the limits do: they only ever refuse with 12, 13 or 14; with enough room they change nothing; what is accepted has room.
+use Prim.Native.Nat.{ℕ, zero, suc, _+_, _*_, _≤_}
+use mathlib.Core.Path.{_≡_, refl, ap, _∙_, subst}
 use mathlib.Core.Bool.{Bool, true, false, cond}
-use mathlib.Core.Option.{Option, none, some}
 use mathlib.Core.List.{List, [], _∷_}
 use native.Mathlib.Omega.{arith}
-use lib.ListN.{length, drop, length-drop}
+use lib.ListN.{length}
 use lib.Dec.{ltb}
 use borrow.Author.Tests.{ltb-false, le-ltb}
 use Rattle.format.specs.Lex.{lex}
 use Rattle.format.specs.Machine as M
-use Rattle.format.specs.Machine.{Values, Machine, Shape, Limits, Step, Outcome, Result, refuse, go, finish, refused, accepted, run, runFree}
-use Rattle.format.specs.Meaning.{termValues, acceptedValue, messageTerm}
-use Rattle.format.specs.Rows.{rowValues, termAt}
+use Rattle.format.specs.Machine.{Values, Machine, Limits, Step, Outcome, Result, refuse, go, finish, refused, accepted, run, runFree}
 use Rattle.format.proofs.Items.{lex-ok}
-use Rattle.format.proofs.Moves as Mv
-use Rattle.format.proofs.Moves.{Move, Making, move, holds}
-use Rattle.format.proofs.Simulation.{inTerms, same-answer}
+use Rattle.format.proofs.Moves.{move}
+use Rattle.format.proofs.Growth.{StepAdds, adds}
 
 -- the numbers that say no room
 abbrev pub NoRoom : ℕ → Type 0
@@ -67,47 +63,13 @@ module _ (𝒱 : Values) (lim : Limits) where
   pub accepted-free : (message : List ℕ) (k : ℕ) (res : Result 𝒱) → run 𝒱 lim message ≡ accepted k res → runFree 𝒱 message ≡ accepted k (res .root)
   accepted-free message k res e = accepted-of k res (under-limits message) e
 
-  -- the stack that a new value comes on is no deeper than before
-  making-depth : {at : ℕ} {r : List ℕ} {m : Machine 𝒱} {shape : Shape (𝒱 .Value)} {st : List (𝒱 .Value)} → Making 𝒱 at r m shape st → length st ≤ length (m .stack)
-  making-depth (Mv.integers z h) = omega arith
-  making-depth (Mv.atoms k h) = omega arith
-  making-depth (Mv.strings k h) = omega arith
-  making-depth (Mv.binaries n v p i h) = omega (arith, ap length (p .splits))
-  making-depth Mv.nils = omega arith
-  making-depth (Mv.conses v l p q t) = omega (arith, ap length (p .splits), ap length (q .splits))
-  making-depth (Mv.tags k v p h) = omega (arith, ap length (p .splits))
-
-  -- what one item may add: two in rows and values together, one value, one mark
-  record Adds (m : Machine 𝒱) (w : ℕ) (m′ : Machine 𝒱) : Type 0 where
-    rows : w + length (m′ .stack) ≤ length (m .stack) + 2
-    depth : length (m′ .stack) ≤ length (m .stack) + 1
-    marks : length (m′ .marks) ≤ length (m .marks) + 1
-
-  abbrev StepAdds : Machine 𝒱 → Step 𝒱 → Type 0
-  StepAdds m (refuse n p) = Unit {0}
-  StepAdds m (go k w m′) = Adds m w m′
-  StepAdds m (finish v) = length (m .stack) ≡ 1
-
-  adds : {at : ℕ} {r : List ℕ} {m : Machine 𝒱} (s : Step 𝒱) → Move 𝒱 at r m s → StepAdds m s
-  unfolding M.fresh M.onStack
-  adds s (Mv.stops n p) = tt
-  adds s (Mv.rests k) = record { rows = omega arith; depth = omega arith; marks = omega arith }
-  adds s (Mv.makes k x) = record { rows = omega (arith, making-depth x); depth = omega (arith, making-depth x); marks = omega arith }
-  adds s Mv.opens = record { rows = omega arith; depth = omega arith; marks = omega arith }
-  adds {m = m} s (Mv.tuples d k ds e l) =
-      let n : length (drop k (m .stack)) ≡ length (m .stack) - k = length-drop k (m .stack) in
-      record { rows = omega arith; depth = omega arith; marks = omega (arith, ap length e) }
-  adds s (Mv.stores x v p) = record { rows = omega (arith, ap length (p .splits)); depth = omega (arith, ap length (p .splits)); marks = omega arith }
-  adds s (Mv.pushes x v e) = record { rows = omega arith; depth = omega arith; marks = omega arith }
-  adds s (Mv.ends v e) = ap length e
-
   -- room for all that the bytes s can ask
   record Room (used : ℕ) (m : Machine 𝒱) (s : List ℕ) : Type 0 where
     rows : used + length (m .stack) + 2 * length s ≤ lim .rows
     depth : length (m .stack) + length s ≤ lim .stack
     marks : length (m .marks) + length s ≤ lim .marks
 
-  bounded-idle : (at used c : ℕ) (r : List ℕ) (m : Machine 𝒱) (s : Step 𝒱) → Room used m (c ∷ r) → StepAdds m s → M.bounded 𝒱 lim at used s ≡ s
+  bounded-idle : (at used c : ℕ) (r : List ℕ) (m : Machine 𝒱) (s : Step 𝒱) → Room used m (c ∷ r) → StepAdds 𝒱 m s → M.bounded 𝒱 lim at used s ≡ s
   unfolding M.bounded
   bounded-idle at used c r m (refuse n p) h a = refl
   bounded-idle at used c r m (finish v) h a = refl
@@ -122,7 +84,7 @@ module _ (𝒱 : Values) (lim : Limits) where
   follow-free : (used c : ℕ) (r : List ℕ) (m : Machine 𝒱) (next : ℕ → ℕ → Machine 𝒱 → Outcome (Result 𝒱)) (end : 𝒱 .Value → Outcome (Result 𝒱))
       (next′ : ℕ → ℕ → Machine 𝒱 → Outcome (𝒱 .Value)) (end′ : 𝒱 .Value → Outcome (𝒱 .Value)) → Room used m (c ∷ r)
       → ((k w : ℕ) (m′ : Machine 𝒱) → Room (used + w) m′ r → valueOnly (next k w m′) ≡ next′ k w m′) → ((v : 𝒱 .Value) → valueOnly (end v) ≡ end′ v)
-      → (s : Step 𝒱) → StepAdds m s → valueOnly (M.follow 𝒱 s next end) ≡ M.follow 𝒱 s next′ end′
+      → (s : Step 𝒱) → StepAdds 𝒱 m s → valueOnly (M.follow 𝒱 s next end) ≡ M.follow 𝒱 s next′ end′
   unfolding M.follow valueOnly
   follow-free used c r m next end next′ end′ h f g (refuse n p) a = refl
   follow-free used c r m next end next′ end′ h f g (finish v) a = g v
@@ -133,7 +95,7 @@ module _ (𝒱 : Values) (lim : Limits) where
   free-from [] skip at used m h = refl
   free-from (c ∷ r) (suc k) at used m h = free-from r k (suc at) used m (record { rows = omega arith; depth = omega arith; marks = omega arith })
   free-from (c ∷ r) zero at used m h =
-      let a = adds (M.step 𝒱 at r m (lex c r)) (move 𝒱 at r m (lex c r) (lex-ok c r)) in
+      let a = adds 𝒱 (M.step 𝒱 at r m (lex c r)) (move 𝒱 at r m (lex c r) (lex-ok c r)) in
       let next : ℕ → ℕ → Machine 𝒱 → Outcome (Result 𝒱) = λ k w m′. M.runFrom 𝒱 lim r k (suc at) (used + w) m′ in
       let end : 𝒱 .Value → Outcome (Result 𝒱) = λ v. accepted (suc at) (record { rows = used; root = v; store = m .store }) in
       ap (λ (s : Step 𝒱). valueOnly (M.follow 𝒱 s next end)) (bounded-idle at used c r m _ h a)
@@ -145,27 +107,34 @@ module _ (𝒱 : Values) (lim : Limits) where
   unfolding run runFree M.start
   enough-room message a b c = free-from message 0 0 0 (M.start 𝒱) (record { rows = omega arith; depth = omega arith; marks = omega arith })
 
-  -- theorem 6: rows made and values on the stack together are at most twice the bytes passed
-  abbrev Few : ℕ → List ℕ → ℕ → Machine 𝒱 → Type 0
-  Few at s used m = used + length (m .stack) ≤ 2 * at
+  -- an accepted message's rows have room
+  abbrev Holds : Outcome (Result 𝒱) → Type 0
+  Holds (refused n p) = Unit {0}
+  Holds (accepted k res) = res .rows ≤ lim .rows
 
-  abbrev FewRows : ℕ → Result 𝒱 → Type 0
-  FewRows consumed res = res .rows ≤ 2 * consumed
+  follow-unless : (c : Bool) (n p : ℕ) (s : Step 𝒱) (next : ℕ → ℕ → Machine 𝒱 → Outcome (Result 𝒱)) (end : 𝒱 .Value → Outcome (Result 𝒱))
+      → (c ≡ false → Holds (M.follow 𝒱 s next end)) → Holds (M.follow 𝒱 (cond c (refuse n p) s) next end)
+  unfolding M.follow
+  follow-unless true n p s next end h = tt
+  follow-unless false n p s next end h = h refl
 
-  few-keeps : (at c : ℕ) (r : List ℕ) (used : ℕ) (m : Machine 𝒱) → Few at (c ∷ r) used m → (s : Step 𝒱) → StepAdds m s → Mv.Next 𝒱 lim Few FewRows at r used m s
-  few-keeps at c r used m h (refuse n p) a = tt
-  few-keeps at c r used m h (go k w m′) a = omega (arith, a .rows)
-  few-keeps at c r used m h (finish v) a = omega arith
+  follow-holds : (at used : ℕ) (next : ℕ → ℕ → Machine 𝒱 → Outcome (Result 𝒱)) (end : 𝒱 .Value → Outcome (Result 𝒱))
+      → ((k w : ℕ) (m : Machine 𝒱) → used + w ≤ lim .rows → Holds (next k w m)) → ((v : 𝒱 .Value) → Holds (end v))
+      → (s : Step 𝒱) → Holds (M.follow 𝒱 (M.bounded 𝒱 lim at used s) next end)
+  unfolding M.follow M.bounded
+  follow-holds at used next end f g (refuse n p) = tt
+  follow-holds at used next end f g (finish v) = g v
+  follow-holds at used next end f g (go k w m) =
+      follow-unless (ltb (lim .rows) (used + w)) 12 at _ next end (λ e.
+      follow-unless (ltb (lim .stack) (length (m .stack))) 13 at _ next end (λ e′.
+      follow-unless (ltb (lim .marks) (length (m .marks))) 14 at (go k w m) next end (λ e″. f k w m (ltb-false (lim .rows) (used + w) e))))
 
-  pub few-rows : (message : List ℕ) (consumed : ℕ) (res : Result 𝒱) → run 𝒱 lim message ≡ accepted consumed res → res .rows ≤ 2 * consumed
-  unfolding M.start
-  few-rows message consumed res e =
-      subst (Mv.AtEnd 𝒱 lim Few FewRows) e
-      (holds 𝒱 lim Few FewRows (λ at c r used m h. omega arith) (λ at c r used m h s x. few-keeps at c r used m h s (adds s x)) message (omega arith))
+  holds-rows : (s : List ℕ) (skip at used : ℕ) (m : Machine 𝒱) → used ≤ lim .rows → Holds (M.runFrom 𝒱 lim s skip at used m)
+  unfolding M.runFrom
+  holds-rows [] skip at used m h = tt
+  holds-rows (c ∷ r) (suc k) at used m h = holds-rows r k (suc at) used m h
+  holds-rows (c ∷ r) zero at used m h = follow-holds at used _ _ (λ k w m′ h′. holds-rows r k (suc at) (used + w) m′ h′) (λ v. h) (M.step 𝒱 at r m (lex c r))
 
--- theorem 2, second half: the term at an accepted message's root row is the term of the message by its bytes alone
-pub root-term : (lim : Limits) (message : List ℕ) (consumed : ℕ) (res : Result rowValues) → run rowValues lim message ≡ accepted consumed res
-    → messageTerm message ≡ some (termAt message (res .store) (res .root))
-unfolding messageTerm acceptedValue inTerms
-root-term lim message consumed res e =
-    ap acceptedValue (accepted-free termValues lim message consumed _ (sym (same-answer message lim) ∙ ap (inTerms message) e))
+  pub rows-fit : (message : List ℕ) (consumed : ℕ) (res : Result 𝒱) → run 𝒱 lim message ≡ accepted consumed res → res .rows ≤ lim .rows
+  unfolding run
+  rows-fit message consumed res e = subst Holds e (holds-rows message 0 0 0 (M.start 𝒱) (omega arith))

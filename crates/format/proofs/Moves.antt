@@ -16,6 +16,10 @@ use Rattle.format.specs.Machine as M
 use Rattle.format.specs.Machine.{Values, Machine, Shape, Limits, Step, Outcome, Result, base, refuse, go, finish, refused, accepted}
 use Rattle.format.proofs.Items.{ItemOk, Marked, lex-ok}
 
+-- the refusals of the machine itself: 1 and 2 come before it, 15 and 16 from writer and comparison, 18 to 20 from the word reader
+abbrev pub MachineNumber : ℕ → Type 0
+MachineNumber n = (3 ≤ n) × (n ≤ 17)
+
 module _ (𝒱 : Values) (at : ℕ) (r : List ℕ) (m : Machine 𝒱) where
   -- the value v popped from the stack, above the base, and the stack st under it
   pub record Popped (stack : List (𝒱 .Value)) (v : 𝒱 .Value) (st : List (𝒱 .Value)) : Type 0 where
@@ -34,7 +38,7 @@ module _ (𝒱 : Values) (at : ℕ) (r : List ℕ) (m : Machine 𝒱) where
     tags : (k : ℕ) (v : 𝒱 .Value) {st : List (𝒱 .Value)} → Popped (m .stack) v st → Marked (code "`") r k → Making (M.tag (suc at) (take k r) v) st
 
   pub data Move : Step 𝒱 → Type 0 where
-    stops : (n p : ℕ) → Move (refuse n p)
+    stops : (n p : ℕ) → MachineNumber n → Move (refuse n p)
     rests : (k : ℕ) → Move (go k 0 m)
     makes : (k : ℕ) {shape : Shape (𝒱 .Value)} {st : List (𝒱 .Value)} → Making shape st → Move (go k 1 (M.fresh 𝒱 at shape st (m .marks) m))
     opens : Move (go 0 0 (record { stack = m .stack; marks = length (m .stack) ∷ m .marks; registers = m .registers; store = m .store }))
@@ -46,55 +50,55 @@ module _ (𝒱 : Values) (at : ℕ) (r : List ℕ) (m : Machine 𝒱) where
     ends : (v : 𝒱 .Value) → m .stack ≡ v ∷ [] → Move (finish v)
 
   -- a test that refuses, or goes on where it fails
-  unless : (c : Bool) (n p : ℕ) (s : Step 𝒱) → (c ≡ false → Move s) → Move (cond c (refuse n p) s)
-  unless true n p s f = stops n p
-  unless false n p s f = f refl
+  unless : (c : Bool) (n p : ℕ) (s : Step 𝒱) → MachineNumber n → (c ≡ false → Move s) → Move (cond c (refuse n p) s)
+  unless true n p s h f = stops n p h
+  unless false n p s h f = f refl
 
   -- a test that goes on where it holds, or refuses
-  only-if : (c : Bool) (n p : ℕ) (s : Step 𝒱) → (c ≡ true → Move s) → Move (cond c s (refuse n p))
-  only-if true n p s f = f refl
-  only-if false n p s f = stops n p
+  only-if : (c : Bool) (n p : ℕ) (s : Step 𝒱) → MachineNumber n → (c ≡ true → Move s) → Move (cond c s (refuse n p))
+  only-if true n p s h f = f refl
+  only-if false n p s h f = stops n p h
 
   pop-move : (stack : List (𝒱 .Value)) (next : 𝒱 .Value → List (𝒱 .Value) → Step 𝒱)
       → ((v : 𝒱 .Value) (st : List (𝒱 .Value)) → Popped stack v st → Move (next v st)) → Move (M.pop 𝒱 at (m .marks) stack next)
   unfolding M.pop
-  pop-move [] next f = stops 6 at
+  pop-move [] next f = stops 6 at (omega arith)
   pop-move (v ∷ st) next f =
-      unless (ltb (length st) (base (m .marks))) 6 at (next v st) (λ e. f v st (record { splits = refl; above = ltb-false (length st) (base (m .marks)) e }))
+      unless (ltb (length st) (base (m .marks))) 6 at (next v st) (omega arith) (λ e. f v st (record { splits = refl; above = ltb-false (length st) (base (m .marks)) e }))
 
   binary-move : (v : 𝒱 .Value) (st : List (𝒱 .Value)) → Popped (m .stack) v st → (o : Option ℤ) → 𝒱 .integerIn (m .store) v ≡ o → Move (M.takeBinary 𝒱 at r m st o)
   unfolding M.takeBinary
-  binary-move v st p none e = stops 7 at
-  binary-move v st p (some (negsuc n)) e = stops 8 at
+  binary-move v st p none e = stops 7 at (omega arith)
+  binary-move v st p (some (negsuc n)) e = stops 8 at (omega arith)
   binary-move v st p (some (pos n)) e =
-      unless (leb (length r) n) 3 (suc at + length r) _ (λ l.
-      only-if (eqb (getD r n 0) (code "~")) 4 (suc at + n) _ (λ t. makes (suc n) (binaries n v p e (leb-false (length r) n l))))
+      unless (leb (length r) n) 3 (suc at + length r) _ (omega arith) (λ l.
+      only-if (eqb (getD r n 0) (code "~")) 4 (suc at + n) _ (omega arith) (λ t. makes (suc n) (binaries n v p e (leb-false (length r) n l))))
 
   cons-move : (v l : 𝒱 .Value) (mid st : List (𝒱 .Value)) → Popped (m .stack) v mid → Popped mid l st → Move (M.consList 𝒱 at m v l st)
   unfolding M.consList
-  cons-move v l mid st p q = only-if (𝒱 .isList (m .store) l) 7 at _ (λ t. makes 0 (conses v l p q t))
+  cons-move v l mid st p q = only-if (𝒱 .isList (m .store) l) 7 at _ (omega arith) (λ t. makes 0 (conses v l p q t))
 
   close-move : (ds : List ℕ) → m .marks ≡ ds → Move (M.closeTuple 𝒱 at m ds)
   unfolding M.closeTuple
-  close-move [] e = stops 10 at
+  close-move [] e = stops 10 at (omega arith)
   close-move (d ∷ ds) e =
-      unless (ltb (length (m .stack)) d) 17 at _ (λ l. tuples d (length (m .stack) - d) ds e (omega (arith, ltb-false (length (m .stack)) d l)))
+      unless (ltb (length (m .stack)) d) 17 at _ (omega arith) (λ l. tuples d (length (m .stack) - d) ds e (omega (arith, ltb-false (length (m .stack)) d l)))
 
   push-move : (x : ℕ) (o : Option (𝒱 .Value)) → m .registers x ≡ o → Move (M.pushRegister 𝒱 at m o)
   unfolding M.pushRegister
-  push-move x none e = stops 9 at
+  push-move x none e = stops 9 at (omega arith)
   push-move x (some v) e = pushes x v e
 
   only-move : (st : List (𝒱 .Value)) → m .stack ≡ st → Move (M.onlyValue 𝒱 at st)
   unfolding M.onlyValue
-  only-move [] e = stops 11 at
+  only-move [] e = stops 11 at (omega arith)
   only-move (v ∷ []) e = ends v e
-  only-move (v ∷ w ∷ st) e = stops 11 at
+  only-move (v ∷ w ∷ st) e = stops 11 at (omega arith)
 
   end-move : (ds : List ℕ) → Move (M.endMessage 𝒱 at m ds)
   unfolding M.endMessage
   end-move [] = only-move (m .stack) refl
-  end-move (d ∷ ds) = stops 10 at
+  end-move (d ∷ ds) = stops 10 at (omega arith)
 
   pub move : (i : Item) → ItemOk r i → Move (M.step 𝒱 at r m i)
   unfolding M.step
@@ -112,47 +116,49 @@ module _ (𝒱 : Values) (at : ℕ) (r : List ℕ) (m : Machine 𝒱) where
   move L.endItem h = end-move (m .marks)
   move (L.storeItem x) h = pop-move (m .stack) _ (λ v st p. stores x v p)
   move (L.pushItem x) h = push-move x (m .registers x) refl
-  move L.cut h = stops 3 (suc at + length r)
-  move (L.stray k) h = stops 4 (at + k)
-  move L.tooLarge h = stops 5 at
+  move L.cut h = stops 3 (suc at + length r) (omega arith)
+  move (L.stray k) h = stops 4 (at + k) (omega arith)
+  move L.tooLarge h = stops 5 at (omega arith)
 
--- An invariant of offset, bytes to come, rows used and machine that every byte passed and every move keeps holds at the end.
+-- An invariant of offset, bytes to come, rows used and machine that every byte passed and every move keeps tells what holds of the answer.
 module _ (𝒱 : Values) (lim : Limits) (Inv : ℕ → List ℕ → ℕ → Machine 𝒱 → Type 0) (End : ℕ → Result 𝒱 → Type 0) where
+  -- of a step from m, with so many rows used, and of an answer
   abbrev pub Next : ℕ → List ℕ → ℕ → Machine 𝒱 → Step 𝒱 → Type 0
-  Next at r used m (refuse n p) = Unit {0}
+  Next at r used m (refuse n p) = MachineNumber n
   Next at r used m (go k w m′) = Inv (suc at) r (used + w) m′
   Next at r used m (finish v) = End (suc at) (record { rows = used; root = v; store = m .store })
 
   abbrev pub AtEnd : Outcome (Result 𝒱) → Type 0
-  AtEnd (refused n p) = Unit {0}
+  AtEnd (refused n p) = MachineNumber n
   AtEnd (accepted k res) = End k res
 
-  next-unless : (at : ℕ) (r : List ℕ) (used : ℕ) (m : Machine 𝒱) (c : Bool) (n p : ℕ) (s : Step 𝒱) → Next at r used m s → Next at r used m (cond c (refuse n p) s)
-  next-unless at r used m true n p s h = tt
-  next-unless at r used m false n p s h = h
+  module _ (at : ℕ) (r : List ℕ) (used : ℕ) (m : Machine 𝒱) where
+    next-unless : (c : Bool) (n p : ℕ) (s : Step 𝒱) → MachineNumber n → Next at r used m s → Next at r used m (cond c (refuse n p) s)
+    next-unless true n p s g h = g
+    next-unless false n p s g h = h
 
-  next-bounded : (at : ℕ) (r : List ℕ) (used : ℕ) (m : Machine 𝒱) (s : Step 𝒱) → Next at r used m s → Next at r used m (M.bounded 𝒱 lim at used s)
-  unfolding M.bounded
-  next-bounded at r used m (refuse n p) h = tt
-  next-bounded at r used m (finish v) h = h
-  next-bounded at r used m (go k w m′) h =
-      next-unless at r used m (ltb (lim .rows) (used + w)) 12 at _
-      (next-unless at r used m (ltb (lim .stack) (length (m′ .stack))) 13 at _ (next-unless at r used m (ltb (lim .marks) (length (m′ .marks))) 14 at (go k w m′) h))
+    next-bounded : (s : Step 𝒱) → Next at r used m s → Next at r used m (M.bounded 𝒱 lim at used s)
+    unfolding M.bounded
+    next-bounded (refuse n p) h = h
+    next-bounded (finish v) h = h
+    next-bounded (go k w m′) h =
+        next-unless (ltb (lim .rows) (used + w)) 12 at _ (omega arith)
+        (next-unless (ltb (lim .stack) (length (m′ .stack))) 13 at _ (omega arith) (next-unless (ltb (lim .marks) (length (m′ .marks))) 14 at (go k w m′) (omega arith) h))
 
-  next-follow : (at : ℕ) (r : List ℕ) (used : ℕ) (m : Machine 𝒱) (next : ℕ → ℕ → Machine 𝒱 → Outcome (Result 𝒱)) (end : 𝒱 .Value → Outcome (Result 𝒱))
-      → ((k w : ℕ) (m′ : Machine 𝒱) → Inv (suc at) r (used + w) m′ → AtEnd (next k w m′))
-      → ((v : 𝒱 .Value) → End (suc at) (record { rows = used; root = v; store = m .store }) → AtEnd (end v))
-      → (s : Step 𝒱) → Next at r used m s → AtEnd (M.follow 𝒱 s next end)
-  unfolding M.follow
-  next-follow at r used m next end f g (refuse n p) h = tt
-  next-follow at r used m next end f g (go k w m′) h = f k w m′ h
-  next-follow at r used m next end f g (finish v) h = g v h
+    next-follow : (next : ℕ → ℕ → Machine 𝒱 → Outcome (Result 𝒱)) (end : 𝒱 .Value → Outcome (Result 𝒱))
+        → ((k w : ℕ) (m′ : Machine 𝒱) → Inv (suc at) r (used + w) m′ → AtEnd (next k w m′))
+        → ((v : 𝒱 .Value) → End (suc at) (record { rows = used; root = v; store = m .store }) → AtEnd (end v))
+        → (s : Step 𝒱) → Next at r used m s → AtEnd (M.follow 𝒱 s next end)
+    unfolding M.follow
+    next-follow next end f g (refuse n p) h = h
+    next-follow next end f g (go k w m′) h = f k w m′ h
+    next-follow next end f g (finish v) h = g v h
 
   module _ (pass : (at c : ℕ) (r : List ℕ) (used : ℕ) (m : Machine 𝒱) → Inv at (c ∷ r) used m → Inv (suc at) r used m)
       (keeps : (at c : ℕ) (r : List ℕ) (used : ℕ) (m : Machine 𝒱) → Inv at (c ∷ r) used m → (s : Step 𝒱) → Move 𝒱 at r m s → Next at r used m s) where
     holds-from : (s : List ℕ) (skip at used : ℕ) (m : Machine 𝒱) → Inv at s used m → AtEnd (M.runFrom 𝒱 lim s skip at used m)
     unfolding M.runFrom
-    holds-from [] skip at used m h = tt
+    holds-from [] skip at used m h = omega arith
     holds-from (c ∷ r) (suc k) at used m h = holds-from r k (suc at) used m (pass at c r used m h)
     holds-from (c ∷ r) zero at used m h =
         next-follow at r used m _ _ (λ k w m′ h′. holds-from r k (suc at) (used + w) m′ h′) (λ v h′. h′) _

@@ -1,7 +1,7 @@
 -- Theorem 4: the machine reads a sound term's plain text back.
 use Prim.Native.Nat.{ℕ, zero, suc, _+_, _-_, _/_, _%_, _≤_, _<_}
 use Prim.Native.Char.{code}
-use mathlib.Core.Path.{_≡_, refl, ap, ap₂, sym, _∙_}
+use mathlib.Core.Path.{_≡_, refl, ap, ap₂, sym, _∙_, subst}
 use mathlib.Core.Bool.{Bool, true, false, _||_, not}
 use mathlib.Core.Option.{none, some}
 use mathlib.Core.List.{List, [], _∷_, _++_, append-assoc, reverse, reverseAux, reverseAux-eq, reverse-reverse}
@@ -18,10 +18,11 @@ use Rattle.format.specs.Term as T
 use Rattle.format.specs.Term.{Term, Terms, _then_, termsFrom}
 use Rattle.format.specs.Text.{digitsOn, naturalOn, decimalOn, between, textOn, itemsOn, fieldsOn, plain}
 use Rattle.format.specs.Lex.{Item, integerItem, atomItem, stringItem, tagItem, closedAt, scan, markedItem, marked, digits, inRange, integerOf, negative, itemOf, lex}
-use Rattle.format.specs.Machine.{Machine, accepted, go, base, start, fresh, takeBinary, consList, onlyValue, endMessage, step, follow, runFreeFrom, runFree}
+use Rattle.format.specs.Machine.{Machine, Limits, Outcome, Result, refused, accepted, run, go, base, start, fresh, takeBinary, consList, onlyValue, endMessage, step, follow, runFreeFrom, runFree}
 use Rattle.format.specs.Meaning.{termInteger, termIsList, itemsOf, termOf, termValues, acceptedValue, messageTerm}
 use Rattle.format.specs.Sound.{spelled, soundTerm, soundTerms}
 use Rattle.format.proofs.Tests.{true-of, false-of, left-of, right-of}
+use Rattle.format.proofs.Limits.{Under, NoRoom, refuses, accepts, short, under-limits}
 use Rattle.format.proofs.FreeRun.{free-go, free-skip, pop-ok, close-ok}
 
 -- the closing mark is found where the spelled bytes end
@@ -294,3 +295,21 @@ pub plain-injective : (t u : Term) → T (soundTerm t) → T (soundTerm u) → p
 plain-injective t u s s′ e =
     let same : some t ≡ some u = sym (message-term-of-text t s) ∙ ap messageTerm e ∙ message-term-of-text u s′ in
     cc
+
+-- the same under limits: that term, with all of the text consumed, or no room
+pub data ReadsBack (t : Term) : Outcome (Result termValues) → Type 0 where
+  whole : (rows : ℕ) → ReadsBack t (accepted (length (plain t)) (record { rows = rows; root = t; store = tt }))
+  noRoom : (n p : ℕ) → NoRoom n → ReadsBack t (refused n p)
+
+pub read-back-limits : (lim : Limits) (t : Term) → T (soundTerm t) → ReadsBack t (run termValues lim (plain t))
+read-back-limits lim t s = reads (under-limits termValues lim (plain t)) (read-back t s)
+  where
+    reads : {a : Outcome (Result termValues)} {b : Outcome Term} → Under termValues lim a b → b ≡ accepted (length (plain t)) t → ReadsBack t a
+    reads (refuses n p) e =
+        let never : _≡_ {A = ℕ} 0 1 = cc in
+        absurd (omega arith)
+    reads (accepts k res) e =
+        let here : k ≡ length (plain t) = cc in
+        let root : res .root ≡ t = cc in
+        rw here (subst (λ (u : Term). ReadsBack t (accepted (length (plain t)) (record { rows = res .rows; root = u; store = tt }))) (sym root) (whole (res .rows)))
+    reads (short n p h) e = noRoom n p h
