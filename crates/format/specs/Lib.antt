@@ -9,3 +9,4 @@ pub mod Sound
 pub mod Word
 pub mod Answer
 pub mod Bench
+pub mod Cases
