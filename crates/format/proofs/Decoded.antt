@@ -1,17 +1,17 @@
 -- What an accepted decoding leaves: a sound table whose root row stands for the message's term.
-use Prim.Native.Nat.{ℕ, zero, suc, _+_, _-_, _*_, _/_, _≤_, _<_, min}
-use mathlib.Core.Path.{_≡_, refl, ap, ap₂, sym, _∙_, subst}
+use Prim.Native.Nat.{ℕ, _*_, _≤_}
+use mathlib.Core.Path.{_≡_, refl, ap, sym, _∙_}
 use mathlib.Core.Bool.{Bool, true, false, _&&_}
-use mathlib.Core.Option.{Option, none, some}
+use mathlib.Core.Option.{some}
 use mathlib.Core.List.{List, [], _∷_, _++_}
 use native.Mathlib.Omega.{arith}
 use lib.ListN.{length, length-append, length-replicate}
 use lib.Dec.{ltb, leb, T, lt→ltb, le→leb}
 use Rattle.format.specs.Machine.{Limits, Result, Outcome, refused, accepted, run}
 use Rattle.format.specs.Meaning.{termValues, acceptedValue, messageTerm}
-use Rattle.format.specs.Rows.{Row, row, rowValues, rowWords, termAt, wordsOf, rowsOf, rowRoom}
+use Rattle.format.specs.Rows.{Row, rowValues, rowWords, termAt, wordsOf, rowsOf, rowRoom}
 use Rattle.format.specs.Sound.{countFits, rootAmong, soundRows, soundTable}
-use Rattle.format.specs.Answer.{Tables, Decoded, overBound, limitsOf, rowsIn, cleared, decodeRefusal, decodeResult, decodeAnswer}
+use Rattle.format.specs.Answer.{Tables, overBound, limitsOf, rowsIn, cleared, decodeRefusal, decodeResult, decodeAnswer}
 use Rattle.format.proofs.Tests.{both}
 use Rattle.format.proofs.Simulation.{inTerms, same-answer}
 use Rattle.format.proofs.SoundRows.{accepted-rows}

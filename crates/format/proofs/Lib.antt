@@ -13,6 +13,6 @@ pub mod Decoded
 pub mod SoundTerms
 pub mod FreeRun
 pub mod ReadBack
-pub mod Appended
+pub mod Suffix
 pub mod Sizes
 pub mod Rounds

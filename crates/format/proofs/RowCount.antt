@@ -1,5 +1,5 @@
 -- Theorem 6, first half: rows used never exceed twice the bytes consumed. By the same walk: the machine gives no number but its own.
-use Prim.Native.Nat.{ℕ, suc, _+_, _*_, _≤_}
+use Prim.Native.Nat.{ℕ, _+_, _*_, _≤_}
 use mathlib.Core.Path.{_≡_, subst}
 use mathlib.Core.List.{List, _∷_}
 use native.Mathlib.Omega.{arith}

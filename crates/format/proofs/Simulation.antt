@@ -4,7 +4,7 @@ use Prim.Native.Char.{code}
 use mathlib.Core.Path.{_≡_, refl, ap, ap₂, sym, _∙_}
 use mathlib.Core.Bool.{Bool, true, false, cond}
 use mathlib.Core.Option.{Option, none, some}
-use mathlib.Core.List.{List, [], _∷_, _++_, reverse, reverseAux}
+use mathlib.Core.List.{List, [], _∷_, _++_, reverseAux}
 use native.Mathlib.Nat.{add-zero}
 use native.Mathlib.Omega.{arith}
 use lib.IntN.{ℤ, pos, negsuc}
@@ -15,14 +15,14 @@ use borrow.Author.Tests.{ltb-true, le-ltb, leb-false}
 use Rattle.format.specs.Lex as L
 use Rattle.format.specs.Lex.{Item, inRange, lex}
 use Rattle.format.specs.Term as Te
-use Rattle.format.specs.Term.{Term, Terms, _then_, termsFrom}
+use Rattle.format.specs.Term.{Term, _then_, termsFrom}
 use Rattle.format.specs.Meaning.{termValues, itemsOf, termOf, termInteger, termIsList}
 use Rattle.format.specs.Rows.{Row, row, rowValues, makeRows, add, addTuple, integerRow, spanRow, nilRow, consRow, endRow, fieldRow, tagRow, toBits, fromBits, rowAt, integerOfRow, rowInteger, isListKind, noTerm, fieldsOf, spanOf, termOfRow, termsAfter, termAt}
 use Rattle.format.specs.Machine as M
 use Rattle.format.specs.Machine.{Machine, Shape, Step, Outcome, Result, Limits, base, refuse, go, finish, refused, accepted, run}
 use Rattle.format.proofs.Tests.{true-of}
 use Rattle.format.proofs.Lists.{drop-next}
-use Rattle.format.proofs.Items.{ItemOk, Marked, lex-ok}
+use Rattle.format.proofs.Items.{ItemOk, lex-ok}
 
 -- 64 bits hold every integer in range
 pub bits-hold : (z : ℤ) → T (inRange z) → fromBits 64 (toBits 64 z) ≡ z

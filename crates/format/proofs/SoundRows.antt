@@ -9,10 +9,10 @@ use native.Mathlib.Omega.{arith}
 use lib.ListN.{length, take, drop, length-append, length-drop, length-reverse}
 use lib.Seq.{getD-append-seam, length-take-le}
 use lib.Dec.{eqb, ltb, T, lt→ltb, le→leb}
-use Rattle.format.specs.Rows.{Row, rowValues, makeRows, add, addTuple, integerRow, spanRow, nilRow, consRow, endRow, fieldRow, tagRow, rowAt, isListKind, isTupleKind, spanOf}
-use Rattle.format.specs.Sound.{spelled, inSlice, spelledIn, soundRow, soundRest, soundAfter, soundRows}
+use Rattle.format.specs.Rows.{Row, rowValues, makeRows, add, addTuple, integerRow, spanRow, nilRow, consRow, endRow, fieldRow, tagRow, rowAt, isTupleKind}
+use Rattle.format.specs.Sound.{inSlice, spelledIn, soundRow, soundRest, soundAfter, soundRows}
 use Rattle.format.specs.Machine as M
-use Rattle.format.specs.Machine.{Machine, Shape, Limits, Step, Result, Outcome, accepted, run}
+use Rattle.format.specs.Machine.{Machine, Shape, Limits, Step, Result, accepted, run}
 use Rattle.format.proofs.Tests.{left-of, right-of, both}
 use Rattle.format.proofs.Lists.{drop-next}
 use Rattle.format.proofs.Items.{Marked}

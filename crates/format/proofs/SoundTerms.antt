@@ -11,7 +11,7 @@ use lib.Dec.{eqb, ltb, T, lt→ltb, leb→le}
 use borrow.Author.Tests.{ltb-true, ltb-false}
 use Rattle.format.specs.Lex.{inRange}
 use Rattle.format.specs.Term as T
-use Rattle.format.specs.Term.{Term, Terms, _then_}
+use Rattle.format.specs.Term.{Term}
 use Rattle.format.specs.Meaning.{itemsOf}
 use Rattle.format.specs.Rows.{Row, integerKind, atomKind, stringKind, binaryKind, nilKind, consKind, endKind, fieldKind, tagKind, fromBits, integerOfRow, noTerm, fieldsOf, spanOf, termOfRow, termsAfter, termAt, rowsOf}
 use Rattle.format.specs.Sound.{spelled, inSlice, spelledIn, soundRow, soundRest, soundAfter, soundRows, countFits, rootAmong, soundTable, soundTerm, soundTerms}

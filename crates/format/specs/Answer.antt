@@ -1,12 +1,11 @@
 -- 01, 'Refusal numbers', 'Plain text' and 'Sensor words': for each public function its whole answer,
 -- the numbers given and the end contents of every buffer lent for writing, from what is lent and the numbers passed.
 use Prim.Native.Nat.{ℕ, _+_, _-_, min}
-use mathlib.Core.Bool.{Bool, true, false, _&&_, _||_, not, cond}
+use mathlib.Core.Bool.{Bool, _&&_, _||_, not, cond}
 use mathlib.Core.List.{List, [], _++_}
 use lib.ListN.{length, drop, replicate}
 use lib.Dec.{ltb}
 use Rattle.format.specs.Byte.{sameBytes}
-use Rattle.format.specs.Term.{Term}
 use Rattle.format.specs.Text.{plain}
 use Rattle.format.specs.Machine as M
 use Rattle.format.specs.Machine.{Limits, Result, refused, accepted, run}

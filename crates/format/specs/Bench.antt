@@ -4,12 +4,12 @@ use Prim.Native.Nat.{ℕ, _*_}
 use Prim.Native.String.{String}
 use mathlib.Core.Bool.{_&&_, cond}
 use mathlib.Core.List.{List, [], _∷_}
-use lib.IntN.{ℤ, pos, negsuc}
+use lib.IntN.{pos, negsuc}
 use lib.ListN.{replicate}
 use lib.Dec.{eqb}
 use Rattle.format.specs.Byte.{bytesOf}
 use Rattle.format.specs.Term as T
-use Rattle.format.specs.Term.{Term, Terms, _then_}
+use Rattle.format.specs.Term.{Term, _then_}
 use Rattle.format.specs.Text.{plain}
 use Rattle.format.specs.Machine as M
 use Rattle.format.specs.Machine.{Result, refused, accepted, run}

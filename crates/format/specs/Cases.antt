@@ -19,10 +19,10 @@ pub data Case : Type 0 where
   decodes : String → ℕ → ℕ → ℕ → List ℕ → Case
   -- a message, rows, rows claimed and root: sound or not
   table : String → List Row → ℕ → ℕ → Bool → Case
-  -- a message written from the table that decoding leaves: scratch words, output before; number, bytes, output after
-  writes : String → ℕ → String → ℕ → ℕ → List ℕ → Case
-  -- two messages compared on the tables that decoding leaves: scratch words; number and equal
-  compares : String → String → ℕ → ℕ → ℕ → Case
+  -- a message and a root, written from the table that decoding leaves: scratch words, output before; number, bytes, output after
+  writes : String → ℕ → ℕ → String → ℕ → ℕ → List ℕ → Case
+  -- two messages, each with a root, compared on the tables that decoding leaves: scratch words; number and equal
+  compares : String → ℕ → String → ℕ → ℕ → ℕ → ℕ → Case
   -- a message's row and k: number and word
   word : String → ℕ → ℕ → ℕ → ℤ → Case
 
@@ -36,11 +36,11 @@ decodedCase message registers d =
 unfoldable pub decoded : List ℕ → Decoded
 decoded message = decodeAnswer message (lend 16 8 4)
 
-unfoldable pub writtenCase : String → ℕ → String → Written → Case
-writtenCase message scratch output w = writes message scratch output (w .number) (w .bytes) (w .output)
+unfoldable pub writtenCase : String → ℕ → ℕ → String → Written → Case
+writtenCase message root scratch output w = writes message root scratch output (w .number) (w .bytes) (w .output)
 
-unfoldable pub comparedCase : String → String → ℕ → Compared → Case
-comparedCase a b scratch c = compares a b scratch (c .number) (c .equal)
+unfoldable pub comparedCase : String → ℕ → String → ℕ → ℕ → Compared → Case
+comparedCase a rootA b rootB scratch c = compares a rootA b rootB scratch (c .number) (c .equal)
 
 unfoldable pub wordCase : String → ℕ → ℕ → Word → Case
 wordCase message at k w = word message at k (w .number) (w .value)
@@ -49,13 +49,13 @@ wordCase message at k w = word message at k (w .number) (w .value)
 unfoldable pub toldCase : Case → Case
 toldCase (decodes message registers number place words) = decodedCase message registers (decodeAnswer (bytesOf message) (small registers))
 toldCase (table message rows used root sound) = table message rows used root (soundTable (bytesOf message) (wordsOf rows) used root)
-toldCase (writes message scratch output number bytes after) =
+toldCase (writes message root scratch output number bytes after) =
     let d = decoded (bytesOf message) in
-    writtenCase message scratch output (writeAnswer (bytesOf message) (d .tables .rows) (d .used) (d .root) (replicate scratch 9) (bytesOf output))
-toldCase (compares a b scratch number equal) =
+    writtenCase message root scratch output (writeAnswer (bytesOf message) (d .tables .rows) (d .used) root (replicate scratch 9) (bytesOf output))
+toldCase (compares a rootA b rootB scratch number equal) =
     let d = decoded (bytesOf a) in
     let e = decoded (bytesOf b) in
-    comparedCase a b scratch (compareAnswer (bytesOf a) (d .tables .rows) (d .used) (d .root) (bytesOf b) (e .tables .rows) (e .used) (e .root) (replicate scratch 9))
+    comparedCase a rootA b rootB scratch (compareAnswer (bytesOf a) (d .tables .rows) (d .used) rootA (bytesOf b) (e .tables .rows) (e .used) rootB (replicate scratch 9))
 toldCase (word message at k number value) =
     let d = decoded (bytesOf message) in
     wordCase message at k (wordAnswer (bytesOf message) (d .tables .rows) (d .used) at k)
@@ -127,29 +127,35 @@ soundness =
     ∷ table "" (row 7 0 0 0 ∷ row 8 0 0 0 ∷ row 8 1 1 0 ∷ []) 3 2 true
     ∷ []
 
--- the writer: 2, 15, and the bytes that it changes
+-- the writer: 2, 16, 15 in that order, and the bytes that it changes
 unfoldable pub writing : List Case
 unfolding bytesOf
 writing =
-    writes "-0 $" 1 "....." 0 3 (bytesOf "0 $..")
-    ∷ writes "-0 $" 1 "..." 0 3 (bytesOf "0 $")
-    ∷ writes "-0 $" 1 ".." 15 0 (bytesOf "..")
-    ∷ writes "-0 $" 0 ".." 2 0 (bytesOf "..")
-    ∷ writes "{1 `t`'a'}>a#a&$" 16 "................" 0 13 (bytesOf "#{1 `t`'a'}&$...")
+    writes "-0 $" 0 1 "....." 0 3 (bytesOf "0 $..")
+    ∷ writes "-0 $" 0 1 "..." 0 3 (bytesOf "0 $")
+    ∷ writes "-0 $" 0 1 ".." 15 0 (bytesOf "..")
+    ∷ writes "-0 $" 1 1 ".." 16 0 (bytesOf "..")
+    ∷ writes "-0 $" 1 0 ".." 2 0 (bytesOf "..")
+    ∷ writes "{1 `t`'a'}>a#a&$" 7 8 "................" 0 13 (bytesOf "#{1 `t`'a'}&$...")
+    ∷ writes "{1 `t`'a'}>a#a&$" 1 8 "................" 0 6 (bytesOf "1 `t`$..........")
     ∷ []
 
--- the comparison: 2, equal and different
+-- the comparison: 2, 16 in that order, equal and different
 unfoldable pub comparing : List Case
 comparing =
-    compares "-0 $" "0 $" 2 0 1
-    ∷ compares "-0 $" "0 $" 1 2 0
-    ∷ compares "'a'$" "\"a\"$" 2 0 0
-    ∷ compares "'a'$" "'a' %same%$" 2 0 1
-    ∷ compares "{1 }$" "#1 &$" 8 0 0
-    ∷ compares "1 >a{aa}$" "{1 1 }$" 16 0 1
-    ∷ compares "1 >a{aa}$" "{1 2 }$" 16 0 0
-    ∷ compares "1~a~$" "\"a\"$" 8 0 0
-    ∷ compares "1 `a`$" "1 `b`$" 8 0 0
+    compares "-0 $" 0 "0 $" 0 2 0 1
+    ∷ compares "-0 $" 0 "0 $" 0 1 2 0
+    ∷ compares "-0 $" 1 "0 $" 0 2 16 0
+    ∷ compares "-0 $" 0 "0 $" 1 2 16 0
+    ∷ compares "-0 $" 1 "0 $" 1 1 2 0
+    ∷ compares "'a'$" 0 "\"a\"$" 0 2 0 0
+    ∷ compares "'a'$" 0 "'a' %same%$" 0 2 0 1
+    ∷ compares "{1 }$" 2 "#1 &$" 2 6 0 0
+    ∷ compares "1 >a{aa}$" 3 "{1 1 }$" 4 9 0 1
+    ∷ compares "1 >a{aa}$" 3 "{1 2 }$" 4 9 0 0
+    ∷ compares "1 >a{aa}$" 2 "{1 1 }$" 4 9 0 0
+    ∷ compares "1~a~$" 1 "\"a\"$" 0 3 0 0
+    ∷ compares "1 `a`$" 1 "1 `b`$" 1 4 0 0
     ∷ []
 
 -- the word reader: 16, 18, 19, 20 in that order, and words of every width
