@@ -8,7 +8,8 @@ use Rattle.format.specs.Lex.{scan, markedItem, digits, inRange, integerO
 use Rattle.format.specs.Lex as L
 use Rattle.format.specs.Machine.{base, start, fresh, onStack, setRegister, pop, takeBinary, consList, closeTuple, pushRegister, onlyValue, endMessage, step, bounded, follow, runFrom, run}
 use Rattle.format.specs.Meaning.{termInteger, termIsList, itemsOf, termOf}
-use Rattle.format.specs.Rows.{toBits, fromBits, integerRow, spanRow, nilRow, consRow, endRow, fieldRow, tagRow, add, addTuple, makeRows, rowAt, integerOfRow, rowInteger, isListKind, isTupleKind, fieldsOf, termOfRow, termsAfter, termAt, wordsOf, rowsOf, rowRoom}
+use Rattle.format.specs.Bits.{toBits, fromBits}
+use Rattle.format.specs.Rows.{integerRow, spanRow, nilRow, consRow, endRow, fieldRow, tagRow, add, addTuple, makeRows, rowAt, integerOfRow, rowInteger, isListKind, isTupleKind, fieldsOf, termOfRow, termsAfter, termAt, wordsOf, rowsOf, rowRoom}
 use Rattle.format.specs.Sound.{spelled, inSlice, spelledIn, countFits, rootAmong, soundRow, soundRest, soundAfter, soundRows, soundTable}
 use Rattle.format.specs.Word.{formats, formatIn, joinAfter, joined, wordOf, wordIn, wordUnder, wordNamed, wordOfTerm}
 use Rattle.format.specs.Answer.{writeRefusal, writeText, writeAnswer, compareRefusal, compareAnswer, wordAnswer, overBound, zeroed, limitsOf, rowsIn, cleared, decodeRefusal, decodeResult, decodeAnswer}

@@ -7,6 +7,7 @@ use mathlib.Core.List.{List, [], _∷_, _++_}
 use native.Mathlib.Omega.{arith}
 use lib.ListN.{length, length-append, length-replicate}
 use lib.Dec.{ltb, leb, T, lt→ltb, le→leb}
+use Rattle.format.specs.Bound.{registerWords}
 use Rattle.format.specs.Machine.{Limits, Result, Outcome, refused, accepted, run}
 use Rattle.format.specs.Meaning.{termValues, acceptedValue, messageTerm}
 use Rattle.format.specs.Rows.{Row, rowValues, rowWords, termAt, wordsOf, rowsOf, rowRoom}
@@ -55,9 +56,9 @@ pub record Accepts (message : List ℕ) (t : Tables) : Type 0 where
 
 pub accepts : (message : List ℕ) (t : Tables) → decodeAnswer message t .number ≡ 0 → Accepts message t
 unfolding decodeAnswer decodeRefusal decodeResult
-accepts message t z = cases (overBound message) (ltb (length (t .registers)) 256) (run rowValues (limitsOf t) message) refl refl refl
+accepts message t z = cases (overBound message) (ltb (length (t .registers)) registerWords) (run rowValues (limitsOf t) message) refl refl refl
   where
-    cases : (b c : Bool) (o : Outcome (Result rowValues)) → overBound message ≡ b → ltb (length (t .registers)) 256 ≡ c → run rowValues (limitsOf t) message ≡ o → Accepts message t
+    cases : (b c : Bool) (o : Outcome (Result rowValues)) → overBound message ≡ b → ltb (length (t .registers)) registerWords ≡ c → run rowValues (limitsOf t) message ≡ o → Accepts message t
     cases true c o e f g = absurd (omega (arith, rw e at z))
     cases false true o e f g = absurd (omega (arith, rw (e, f) at z))
     cases false false (refused n p) e f g = absurd (omega (arith, machine-number rowValues (limitsOf t) message n p g, rw (e, f, g) at z))

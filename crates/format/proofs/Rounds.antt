@@ -9,6 +9,7 @@ use Rattle.format.specs.Byte.{bytesOf}
 use Rattle.format.specs.Term as T
 use Rattle.format.specs.Term.{Term, _then_}
 use Rattle.format.specs.Text.{plain}
+use Rattle.format.specs.Bound.{rowBound, stackBound, markBound}
 use Rattle.format.specs.Machine.{Limits, accepted, run, runFreeFrom, runFree}
 use Rattle.format.specs.Meaning.{acceptedValue, messageTerm}
 use Rattle.format.specs.Rows.{Row, rowValues}
@@ -25,7 +26,7 @@ message n = bytesOf "1 >a" ++ rounds n
 
 -- as much room as 01 allows
 unfoldable pub roomy : Limits
-roomy = record { rows = 65536; stack = 4096; marks = 256 }
+roomy = record { rows = rowBound; stack = stackBound; marks = markBound }
 
 pub rounds-length : length (message 20) ≡ 126
 unfolding message rounds bytesOf

@@ -17,7 +17,8 @@ use Rattle.format.specs.Lex.{Item, inRange, lex}
 use Rattle.format.specs.Term as Te
 use Rattle.format.specs.Term.{Term, _then_, termsFrom}
 use Rattle.format.specs.Meaning.{termValues, itemsOf, termOf, termInteger, termIsList}
-use Rattle.format.specs.Rows.{Row, row, rowValues, makeRows, add, addTuple, integerRow, spanRow, nilRow, consRow, endRow, fieldRow, tagRow, toBits, fromBits, rowAt, integerOfRow, rowInteger, isListKind, noTerm, fieldsOf, spanOf, termOfRow, termsAfter, termAt}
+use Rattle.format.specs.Bits.{toBits, fromBits}
+use Rattle.format.specs.Rows.{Row, row, rowValues, makeRows, add, addTuple, integerRow, spanRow, nilRow, consRow, endRow, fieldRow, tagRow, rowAt, integerOfRow, rowInteger, isListKind, noTerm, fieldsOf, spanOf, termOfRow, termsAfter, termAt}
 use Rattle.format.specs.Machine as M
 use Rattle.format.specs.Machine.{Machine, Shape, Step, Outcome, Result, Limits, base, refuse, go, finish, refused, accepted, run}
 use Rattle.format.proofs.Tests.{true-of}

@@ -13,7 +13,8 @@ use Rattle.format.specs.Lex.{inRange}
 use Rattle.format.specs.Term as T
 use Rattle.format.specs.Term.{Term}
 use Rattle.format.specs.Meaning.{itemsOf}
-use Rattle.format.specs.Rows.{Row, integerKind, atomKind, stringKind, binaryKind, nilKind, consKind, endKind, fieldKind, tagKind, fromBits, integerOfRow, noTerm, fieldsOf, spanOf, termOfRow, termsAfter, termAt, rowsOf}
+use Rattle.format.specs.Bits.{fromBits}
+use Rattle.format.specs.Rows.{Row, integerKind, atomKind, stringKind, binaryKind, nilKind, consKind, endKind, fieldKind, tagKind, integerOfRow, noTerm, fieldsOf, spanOf, termOfRow, termsAfter, termAt, rowsOf}
 use Rattle.format.specs.Sound.{spelled, inSlice, spelledIn, soundRow, soundRest, soundAfter, soundRows, countFits, rootAmong, soundTable, soundTerm, soundTerms}
 use Rattle.format.proofs.Tests.{left-of, right-of, both}
 

@@ -17,6 +17,7 @@ use Rattle.format.specs.Lex as L
 use Rattle.format.specs.Lex.{Item, Scan, Digits, inRange, lex, scan, digits, integerOf, marked, markedItem, negative, store, itemOf}
 use Rattle.format.specs.Machine as M
 use Rattle.format.specs.Machine.{Values, Machine, Limits, Step, Outcome, Result, refuse, go, finish, refused, accepted, run, runFree}
+use Rattle.format.specs.Bound.{messageBound, registerWords}
 use Rattle.format.specs.Rows.{Row, rowValues, rowRoom}
 use Rattle.format.specs.Answer.{Tables, overBound, zeroed, limitsOf, rowsIn, cleared, decodeRefusal, decodeResult, decodeAnswer}
 use Rattle.format.proofs.Items.{ItemOk, lex-ok}
@@ -380,11 +381,11 @@ module _ (𝒱 : Values) where
     rest-unread x y z r e = appended x z (accepted (length x) r) (back r (runs-agree limited (length x) x y 0 0 0 (M.start 𝒱) (omega arith)) e) tt
 
 -- the same of the whole answer, the tables at the end included
-pub answer-rest : (x y z : List ℕ) (t : Tables) (r : Result rowValues) → length (x ++ y) ≤ 1048576 → length (x ++ z) ≤ 1048576
+pub answer-rest : (x y z : List ℕ) (t : Tables) (r : Result rowValues) → length (x ++ y) ≤ messageBound → length (x ++ z) ≤ messageBound
     → run rowValues (limitsOf t) (x ++ y) ≡ accepted (length x) r → decodeAnswer (x ++ z) t ≡ decodeAnswer (x ++ y) t
 unfolding decodeAnswer overBound
 answer-rest x y z t r hy hz e =
-    rw (le-ltb 1048576 (length (x ++ y)) hy, le-ltb 1048576 (length (x ++ z)) hz, rest-unread rowValues (limitsOf t) x y z r e, e) refl
+    rw (le-ltb messageBound (length (x ++ y)) hy, le-ltb messageBound (length (x ++ z)) hz, rest-unread rowValues (limitsOf t) x y z r e, e) refl
 
 -- two lots of tables of the same lengths
 module _ (t t′ : Tables) (hr : length (t .rows) ≡ length (t′ .rows)) (hs : length (t .stack) ≡ length (t′ .stack)) (hm : length (t .marks) ≡ length (t′ .marks))
@@ -407,9 +408,9 @@ pub answer-old : (message : List ℕ) (t t′ : Tables)
     → length (t .rows) ≡ length (t′ .rows) → length (t .stack) ≡ length (t′ .stack) → length (t .marks) ≡ length (t′ .marks) → length (t .registers) ≡ length (t′ .registers)
     → ¬ (decodeAnswer message t .number ≡ 1) → ¬ (decodeAnswer message t .number ≡ 2) → decodeAnswer message t ≡ decodeAnswer message t′
 unfolding decodeAnswer decodeRefusal
-answer-old message t t′ hr hs hm hg not1 not2 = cases (overBound message) (ltb (length (t .registers)) 256) refl refl
+answer-old message t t′ hr hs hm hg not1 not2 = cases (overBound message) (ltb (length (t .registers)) registerWords) refl refl
   where
-    cases : (b c : Bool) → overBound message ≡ b → ltb (length (t .registers)) 256 ≡ c → decodeAnswer message t ≡ decodeAnswer message t′
+    cases : (b c : Bool) → overBound message ≡ b → ltb (length (t .registers)) registerWords ≡ c → decodeAnswer message t ≡ decodeAnswer message t′
     cases true c e f = absurd (not1 (rw e refl))
     cases false true e f = absurd (not2 (rw (e, f) refl))
     cases false false e f = rw (e, ← hg, f, old-limits t t′ hr hs hm hg) (old-result t t′ hr hs hm hg (run rowValues (limitsOf t′) message))

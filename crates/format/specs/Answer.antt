@@ -5,6 +5,7 @@ use mathlib.Core.Bool.{Bool, _&&_, _||_, not, cond}
 use mathlib.Core.List.{List, [], _++_}
 use lib.ListN.{length, drop, replicate}
 use lib.Dec.{ltb}
+use Rattle.format.specs.Bound.{messageBound, stackBound, markBound, registerWords}
 use Rattle.format.specs.Byte.{sameBytes}
 use Rattle.format.specs.Text.{plain}
 use Rattle.format.specs.Machine as M
@@ -15,7 +16,7 @@ use Rattle.format.specs.Word.{Word, noWord, wordOfTerm}
 
 -- refusal 1: a message slice over its bound
 unfoldable pub overBound : List ℕ → Bool
-overBound message = ltb 1048576 (length message)
+overBound message = ltb messageBound (length message)
 
 -- a buffer with every word zero
 unfoldable pub zeroed : List ℕ → List ℕ
@@ -36,9 +37,9 @@ pub record Decoded : Type 0 where
   pub used : ℕ
   pub tables : Tables
 
--- 01, 'Numbers that bound the work'
+-- each table has room for its lent length, and at most its bound
 unfoldable pub limitsOf : Tables → Limits
-limitsOf t = record { rows = rowRoom (t .rows); stack = min (length (t .stack)) 4096; marks = min (length (t .marks)) 256 }
+limitsOf t = record { rows = rowRoom (t .rows); stack = min (length (t .stack)) stackBound; marks = min (length (t .marks)) markBound }
 
 -- rows at the head of a table of words, and zeros past them
 unfoldable pub rowsIn : List ℕ → List Row → List ℕ
@@ -52,6 +53,7 @@ cleared t rows = record { rows = rowsIn (t .rows) rows; stack = zeroed (t .stack
 unfoldable pub decodeRefusal : ℕ → ℕ → Tables → Decoded
 decodeRefusal number place t = record { number = number; place = place; root = 0; used = 0; tables = t }
 
+-- what the machine says, and the tables that it leaves
 unfoldable pub decodeResult : Tables → M.Outcome (Result rowValues) → Decoded
 decodeResult t (refused number place) = decodeRefusal number place (cleared t [])
 decodeResult t (accepted consumed r) = record { number = 0; place = consumed; root = r .root; used = r .rows; tables = cleared t (r .store) }
@@ -60,7 +62,7 @@ decodeResult t (accepted consumed r) = record { number = 0; place = consumed; ro
 unfoldable pub decodeAnswer : List ℕ → Tables → Decoded
 decodeAnswer message t =
     cond (overBound message) (decodeRefusal 1 0 t)
-    (cond (ltb (length (t .registers)) 256) (decodeRefusal 2 0 t)
+    (cond (ltb (length (t .registers)) registerWords) (decodeRefusal 2 0 t)
     (decodeResult t (run rowValues (limitsOf t) message)))
 
 -- 0 and the bytes written, or a refusal's number and 0; and the buffers at the end
@@ -70,6 +72,7 @@ pub record Written : Type 0 where
   pub scratch : List ℕ
   pub output : List ℕ
 
+-- a refusal changes no output byte
 unfoldable pub writeRefusal : ℕ → List ℕ → List ℕ → Written
 writeRefusal number scratch output = record { number = number; bytes = 0; scratch = scratch; output = output }
 
@@ -79,7 +82,7 @@ writeText text scratch output =
     cond (ltb (length output) (length text)) (writeRefusal 15 (zeroed scratch) output)
     (record { number = 0; bytes = length text; scratch = zeroed scratch; output = text ++ drop (length text) output })
 
--- write: 1, 2, 16, 15
+-- write: 1, 2, 16, 15; the scratch is touched after all but 1 and 2
 unfoldable pub writeAnswer : List ℕ → List ℕ → ℕ → ℕ → List ℕ → List ℕ → Written
 writeAnswer message words used root scratch output =
     cond (overBound message) (writeRefusal 1 scratch output)
@@ -93,6 +96,7 @@ pub record Compared : Type 0 where
   pub equal : ℕ
   pub scratch : List ℕ
 
+-- a refusal that leaves such a scratch
 unfoldable pub compareRefusal : ℕ → List ℕ → Compared
 compareRefusal number scratch = record { number = number; equal = 0; scratch = scratch }
 

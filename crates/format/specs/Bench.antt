@@ -11,6 +11,7 @@ use Rattle.format.specs.Byte.{bytesOf}
 use Rattle.format.specs.Term as T
 use Rattle.format.specs.Term.{Term, _then_}
 use Rattle.format.specs.Text.{plain}
+use Rattle.format.specs.Bound.{registerWords}
 use Rattle.format.specs.Machine as M
 use Rattle.format.specs.Machine.{Result, refused, accepted, run}
 use Rattle.format.specs.Meaning.{termValues}
@@ -33,7 +34,7 @@ lend rows stack marks = record {
   rows = replicate (rows * rowWords) 9;
   stack = replicate stack 9;
   marks = replicate marks 9;
-  registers = replicate 256 9;
+  registers = replicate registerWords 9;
 }
 
 -- what the decoder's answer and the machine at terms say together

@@ -8,14 +8,16 @@ use mathlib.Core.Bool.{Bool, true, false, _&&_, cond}
 use mathlib.Core.List.{List, [], _∷_}
 use lib.Dec.{eqb}
 
+-- the classes: one for white space, one for digits, one for each other special byte, one for all registers
 pub data Class : Type 0 where
   white digit minus atomMark stringMark tagMark commentMark leftBrace rightBrace tilde hash ampersand dollar greater comma register : Class
 
+-- a byte and its class
 pub data Entry : Type 0 where
   _is_ : ℕ → Class → Entry
 
 infix 40 _is_
--- white space, the ten digits, and the bytes that 01 excludes from the registers by name
+-- white space, the digits, and the bytes that 01 names as no registers, `$` and `>` among them; the comma has no meaning
 unfoldable pub specials : List Entry
 specials =
     (code " " is white) ∷ (code "\t" is white) ∷ (code "\n" is white) ∷ (code "\r" is white)
@@ -25,10 +27,12 @@ specials =
     ∷ (code "'" is atomMark) ∷ (code "`" is tagMark) ∷ (code "{" is leftBrace) ∷ (code "}" is rightBrace)
     ∷ (code "#" is hash) ∷ (code "&" is ampersand) ∷ (code "," is comma) ∷ (code "$" is dollar) ∷ (code ">" is greater) ∷ []
 
+-- the class that a list gives a byte: registers are named by any byte except those listed
 unfoldable pub classIn : List Entry → ℕ → Class
 classIn [] b = register
 classIn ((k is c) ∷ es) b = elim (eqb k b) [ true ↦ c | false ↦ classIn es b ]
 
+-- the class of a byte
 unfoldable pub classOf : ℕ → Class
 classOf b = classIn specials b
 
@@ -51,7 +55,7 @@ classCode greater = 13
 classCode comma = 14
 classCode register = 15
 
--- byte b is of class c
+-- whether byte b is of class c
 unfoldable pub hasClass : Class → ℕ → Bool
 hasClass c b = eqb (classCode (classOf b)) (classCode c)
 
@@ -60,12 +64,12 @@ unfoldable pub countBelow : ℕ → Class → ℕ
 countBelow zero c = 0
 countBelow (suc n) c = cond (hasClass c n) 1 0 + countBelow n c
 
--- the bytes of a quoted text of ASCII characters
+-- the bytes of a quoted text, a byte for each character below 256
 unfoldable pub bytesOf : String → List ℕ
 bytesOf S.[] = []
 bytesOf (S._∷_ c s) = code c ∷ bytesOf s
 
--- the test whether two byte strings are the same
+-- whether two texts are the same bytes
 unfoldable pub sameBytes : List ℕ → List ℕ → Bool
 sameBytes [] [] = true
 sameBytes [] (y ∷ ys) = false

@@ -1,4 +1,6 @@
--- 01, 'Bytes and items': the item that stands at a byte, from that byte and the bytes r that follow it in the slice.
+-- 01, 'Bytes and items', and from 'Refusal numbers' how an item's bytes are read: from the left, the first that cannot
+-- stand there is 4 at once, and 3 is given only if the slice ends with none met.
+-- The item that stands at a byte is told by that byte and the bytes r that follow it in the slice.
 use Prim.Native.Nat.{ℕ, suc, _+_, _*_, _-_, _^_}
 use Prim.Native.Char.{code}
 use mathlib.Core.Bool.{Bool, true, false, _||_, cond}
@@ -32,11 +34,13 @@ scan mark escaped k [] = ended
 scan mark true k (c ∷ r) = elim (eqb c (code "\\") || eqb c mark) [ true ↦ scan mark false (suc k) r | false ↦ strayAt k ]
 scan mark false k (c ∷ r) = elim (eqb c mark) [ true ↦ closedAt k | false ↦ scan mark (eqb c (code "\\")) (suc k) r ]
 
+-- the item that comes of the look
 unfoldable pub markedItem : (ℕ → Item) → Scan → Item
 markedItem item ended = cut
 markedItem item (strayAt k) = stray (suc k)
 markedItem item (closedAt k) = item k
 
+-- atom, string, tag, comment: bytes up to the same mark
 unfoldable pub marked : ℕ → (ℕ → Item) → List ℕ → Item
 marked mark item r = markedItem item (scan mark false 0 r)
 
@@ -45,15 +49,17 @@ pub data Digits : Type 0 where
   unfinished : Digits
   value : ℕ → ℕ → Digits
 
--- as many digits as there are, after k bytes that are worth v
+-- as many digits as there are, after k bytes; the digits so far are worth v
 unfoldable pub digits : ℕ → ℕ → List ℕ → Digits
 digits v k [] = unfinished
 digits v k (c ∷ r) = elim (hasClass B.digit c) [ true ↦ digits (v * 10 + (c - code "0")) (suc k) r | false ↦ value v k ]
 
+-- the range of an integer
 unfoldable pub inRange : ℤ → Bool
 inRange (pos n) = ltb n (2 ^ 63)
 inRange (negsuc n) = ltb n (2 ^ 63)
 
+-- an integer that runs to the end of the slice is cut; leading zeros and -0 are read
 unfoldable pub integerOf : (ℕ → ℤ) → Digits → Item
 integerOf sign unfinished = cut
 integerOf sign (value v k) = cond (inRange (sign v)) (integerItem (sign v) k) tooLarge
@@ -68,6 +74,7 @@ unfoldable pub store : List ℕ → Item
 store [] = cut
 store (c ∷ r) = cond (hasClass B.register c) (storeItem c) (stray 1)
 
+-- the item by its first byte's class; a comma is a byte with no meaning
 unfoldable pub itemOf : Class → ℕ → List ℕ → Item
 itemOf B.white c r = whiteItem
 itemOf B.digit c r = integerOf (λ v. pos v) (digits (c - code "0") 0 r)
@@ -86,5 +93,6 @@ itemOf B.greater c r = store r
 itemOf B.comma c r = stray 0
 itemOf B.register c r = pushItem c
 
+-- the item at byte c, before the bytes r
 unfoldable pub lex : ℕ → List ℕ → Item
 lex c r = itemOf (classOf c) c r

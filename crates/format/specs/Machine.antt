@@ -1,5 +1,5 @@
--- 01, 'The machine' and 'Refusal numbers': the UBF(A) stack machine, over any notion of value.
--- Each item's refusals stand in 01's order. 12, 13 and 14 come last in every item, so one check after the step gives them.
+-- 01, 'The machine', and from 'Refusal numbers' when each of 3 to 14 and 17 is given, in each item's order:
+-- the UBF(A) stack machine, over any notion of value. 12, 13 and 14 stand last in every item, so one check after the step gives them.
 use Prim.Native.Nat.{ℕ, zero, suc, _+_, _-_}
 use Prim.Native.Char.{code}
 use mathlib.Core.Bool.{Bool, cond}
@@ -46,7 +46,7 @@ base [] = 0
 base (d ∷ ds) = d
 
 module _ (𝒱 : Values) where
-  -- stack and marks with the latest first
+  -- what the machine holds; the stack's top and the mark noted last come first
   pub record Machine : Type 0 where
     pub stack : List (𝒱 .Value)
     pub marks : List ℕ
@@ -57,7 +57,7 @@ module _ (𝒱 : Values) where
   unfoldable pub start : Machine
   start = record { stack = []; marks = []; registers = λ r. none; store = 𝒱 .empty }
 
-  -- an item refuses with a number at a place, goes on past so many bytes after its first, having made so many rows, or ends the message
+  -- what an item does: it refuses with a number at a place; goes on past so many bytes after its first, so many rows made; or ends the message
   pub data Step : Type 0 where
     refuse : ℕ → ℕ → Step
     go : ℕ → ℕ → Machine → Step
@@ -76,15 +76,16 @@ module _ (𝒱 : Values) where
   unfoldable pub onStack : List (𝒱 .Value) → Machine → Machine
   onStack st m = record { stack = st; marks = m .marks; registers = m .registers; store = m .store }
 
+  -- the registers after a store
   unfoldable pub setRegister : ℕ → 𝒱 .Value → (ℕ → Option (𝒱 .Value)) → ℕ → Option (𝒱 .Value)
   setRegister r v old x = cond (eqb x r) (some v) (old x)
 
-  -- a pop from st by the operator at `at`, and what to do with the value and the stack under it
+  -- 6, or a pop from the stack by the operator at `at`, and what comes of the value and the stack under it
   unfoldable pub pop : ℕ → List ℕ → List (𝒱 .Value) → (𝒱 .Value → List (𝒱 .Value) → Step) → Step
   pop at marks [] next = refuse 6 at
   pop at marks (v ∷ st) next = cond (ltb (length st) (base marks)) (refuse 6 at) (next v st)
 
-  -- `~`: the count popped, n bytes, and then `~`
+  -- `~`, its count popped: 7 if that is no integer, 8 if negative, 3 at or beyond the bytes left, 4 if no `~` follows the n bytes
   unfoldable pub takeBinary : ℕ → List ℕ → Machine → List (𝒱 .Value) → Option ℤ → Step
   takeBinary at r m st none = refuse 7 at
   takeBinary at r m st (some (negsuc n)) = refuse 8 at
@@ -92,11 +93,11 @@ module _ (𝒱 : Values) where
       cond (leb (length r) n) (refuse 3 (suc at + length r))
       (cond (eqb (getD r n 0) (code "~")) (go (suc n) 1 (fresh at (binary (suc at) (take n r)) st (m .marks) m)) (refuse 4 (suc at + n)))
 
-  -- `&`: v before l
+  -- `&`, item v and list l popped: 7, or v before l
   unfoldable pub consList : ℕ → Machine → 𝒱 .Value → 𝒱 .Value → List (𝒱 .Value) → Step
   consList at m v l st = cond (𝒱 .isList (m .store) l) (go 0 1 (fresh at (cons v l) st (m .marks) m)) (refuse 7 at)
 
-  -- `}`: a tuple of all above the mark, in the order they came
+  -- `}`: 10 with nothing noted, 17 at a depth under the mark, or a tuple of all above it, in the order they came
   unfoldable pub closeTuple : ℕ → Machine → List ℕ → Step
   closeTuple at m [] = refuse 10 at
   closeTuple at m (d ∷ ds) =
@@ -104,21 +105,23 @@ module _ (𝒱 : Values) where
       cond (ltb (length (m .stack)) d) (refuse 17 at)
       (go 0 (suc k) (fresh at (tuple (reverse (take k (m .stack)))) (drop k (m .stack)) ds m))
 
+  -- a push of what a register holds: 9 if it is empty, or a copy, and the register keeps it
   unfoldable pub pushRegister : ℕ → Machine → Option (𝒱 .Value) → Step
   pushRegister at m none = refuse 9 at
   pushRegister at m (some v) = go 0 0 (onStack (v ∷ m .stack) m)
 
-  -- `$`: nothing noted, and one value
+  -- `$` with nothing noted: 11, or the one value
   unfoldable pub onlyValue : ℕ → List (𝒱 .Value) → Step
   onlyValue at [] = refuse 11 at
   onlyValue at (v ∷ []) = finish v
   onlyValue at (v ∷ w ∷ st) = refuse 11 at
 
+  -- `$`: 10 with something noted
   unfoldable pub endMessage : ℕ → Machine → List ℕ → Step
   endMessage at m [] = onlyValue at (m .stack)
   endMessage at m (d ∷ ds) = refuse 10 at
 
-  -- the item at `at`; r are the bytes after its first
+  -- the item at `at`, before the bytes r: `{` notes the depth, `#` pushes the empty list, `>x` pops into x, a tag wraps the top value
   unfoldable pub step : ℕ → List ℕ → Machine → Item → Step
   step at r m whiteItem = go 0 0 m
   step at r m (commentItem k) = go (suc k) 0 m
@@ -140,7 +143,7 @@ module _ (𝒱 : Values) where
   step at r m (stray k) = refuse 4 (at + k)
   step at r m tooLarge = refuse 5 at
 
-  -- no room in rows, stack, marks: `used` rows were made before the item at `at`
+  -- 12, 13, 14: no room in rows, stack, marks after the item at `at`, before which `used` rows were made
   unfoldable pub bounded : Limits → ℕ → ℕ → Step → Step
   bounded lim at used (refuse n p) = refuse n p
   bounded lim at used (finish v) = finish v
@@ -162,7 +165,7 @@ module _ (𝒱 : Values) where
     pub root : 𝒱 .Value
     pub store : 𝒱 .Store
 
-  -- the message from `at` on: `skip` bytes of it belong to an item already done, and `used` rows are made
+  -- items go left to right; the message from `at` on, where `skip` bytes belong to an item already done and `used` rows are made
   unfoldable pub runFrom : Limits → List ℕ → ℕ → ℕ → ℕ → Machine → Outcome Result
   runFrom lim [] skip at used m = refused 3 at
   runFrom lim (c ∷ r) (suc k) at used m = runFrom lim r k (suc at) used m
@@ -175,11 +178,12 @@ module _ (𝒱 : Values) where
   unfoldable pub run : Limits → List ℕ → Outcome Result
   run lim message = runFrom lim message 0 0 0 start
 
-  -- the same with no limit and no count
+  -- the same with no limit and no count of rows
   unfoldable pub runFreeFrom : List ℕ → ℕ → ℕ → Machine → Outcome (𝒱 .Value)
   runFreeFrom [] skip at m = refused 3 at
   runFreeFrom (c ∷ r) (suc k) at m = runFreeFrom r k (suc at) m
   runFreeFrom (c ∷ r) zero at m = follow (step at r m (lex c r)) (λ k w m′. runFreeFrom r k (suc at) m′) (λ v. accepted (suc at) v)
 
+  -- a message by its bytes alone
   unfoldable pub runFree : List ℕ → Outcome (𝒱 .Value)
   runFree message = runFreeFrom message 0 0 start

@@ -9,7 +9,7 @@ use Rattle.format.specs.Term.{Term, Terms, _then_, termsFrom}
 use Rattle.format.specs.Machine as M
 use Rattle.format.specs.Machine.{Shape, Values, Outcome, refused, accepted, runFree}
 
--- a tagged integer no longer serves as a count, nor a tagged list as a list
+-- what serves as a count: a tagged integer no longer does
 unfoldable pub termInteger : Term → Option ℤ
 termInteger (T.int z) = some z
 termInteger (T.atom b) = none
@@ -19,6 +19,7 @@ termInteger (T.list ts) = none
 termInteger (T.tuple ts) = none
 termInteger (T.tag b t) = none
 
+-- what serves as a list: a tagged list no longer does
 unfoldable pub termIsList : Term → Bool
 termIsList (T.int z) = false
 termIsList (T.atom b) = false
@@ -38,6 +39,7 @@ itemsOf (T.list ts) = ts
 itemsOf (T.tuple ts) = T.none
 itemsOf (T.tag b t) = T.none
 
+-- the term that an item makes
 unfoldable pub termOf : Shape Term → Term
 termOf (M.integer z) = T.int z
 termOf (M.atom start b) = T.atom b
@@ -59,6 +61,7 @@ termValues = record {
   isList = λ s v. termIsList v;
 }
 
+-- the value of an accepted message
 unfoldable pub acceptedValue : {A : Type 0} → Outcome A → Option A
 acceptedValue (refused n p) = none
 acceptedValue (accepted k v) = some v

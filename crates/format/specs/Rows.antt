@@ -1,24 +1,27 @@
 -- 01, 'Row table': the rows, the machine at rows, the terms that rows stand for, and the words that they lie in.
-use Prim.Native.Nat.{ℕ, zero, suc, _+_, _-_, _*_, _^_, _/_, _%_, min}
+use Prim.Native.Nat.{ℕ, zero, suc, _+_, _*_, _^_, _/_, _%_, min}
 use mathlib.Core.Bool.{Bool, _||_, cond}
 use mathlib.Core.Option.{Option, none, some}
 use mathlib.Core.List.{List, [], _∷_, _++_}
-use lib.IntN.{ℤ, pos, negsuc}
+use lib.IntN.{ℤ}
 use lib.ListN.{length, getD, take, drop}
-use lib.Dec.{eqb, ltb}
+use lib.Dec.{eqb}
+use Rattle.format.specs.Bits.{toBits, fromBits}
+use Rattle.format.specs.Bound.{rowBound}
 use Rattle.format.specs.Term as T
 use Rattle.format.specs.Term.{Term, Terms, _then_}
 use Rattle.format.specs.Meaning.{itemsOf}
 use Rattle.format.specs.Machine as M
 use Rattle.format.specs.Machine.{Shape, Values}
 
--- a row: its kind and its other three words
+-- a row: its kind and its other three words (in the code `Row` is a row's number)
 pub record Row : Type 0 where
   pub kind : ℕ
   pub first : ℕ
   pub second : ℕ
   pub third : ℕ
 
+-- a row by its words
 abbrev pub row : ℕ → ℕ → ℕ → ℕ → Row
 row k a b c = record { kind = k; first = a; second = b; third = c }
 
@@ -50,46 +53,44 @@ fieldKind = 8
 abbrev pub tagKind : ℕ
 tagKind = 9
 
--- two's complement of so many bits, and back
-unfoldable pub toBits : ℕ → ℤ → ℕ
-toBits bits (pos n) = n
-toBits bits (negsuc n) = 2 ^ bits - suc n
-
-unfoldable pub fromBits : ℕ → ℕ → ℤ
-fromBits bits n = cond (ltb n (2 ^ (bits - 1))) (pos n) (negsuc (2 ^ bits - suc n))
-
--- the rows of each kind; rests and fields are row numbers
+-- an integer: high half and low half of two's complement
 unfoldable pub integerRow : ℤ → Row
 integerRow z = row integerKind (toBits 64 z / 2 ^ 32) (toBits 64 z % 2 ^ 32) 0
 
--- an atom, a string or a binary: start and length, escapes kept
+-- an atom, a string or a binary: start and length as spelled, escapes kept
 unfoldable pub spanRow : ℕ → ℕ → List ℕ → Row
 spanRow kind start bytes = row kind start (length bytes) 0
 
+-- the empty list
 unfoldable pub nilRow : Row
 nilRow = row nilKind 0 0 0
 
+-- a list cell: item row, rest row
 unfoldable pub consRow : ℕ → ℕ → Row
 consRow item rest = row consKind item rest 0
 
+-- a tuple's end
 unfoldable pub endRow : Row
 endRow = row endKind 0 0 0
 
+-- a tuple's field: field row, rest row
 unfoldable pub fieldRow : ℕ → ℕ → Row
 fieldRow field rest = row fieldKind field rest 0
 
+-- a tag: start, length, inner row
 unfoldable pub tagRow : ℕ → List ℕ → ℕ → Row
 tagRow start bytes inner = row tagKind start (length bytes) inner
 
--- one row more, and its number: row numbers start at 0
+-- one row more, and its number; row numbers start at 0
 unfoldable pub add : List Row → Row → List Row × ℕ
 add rows r = (rows ++ (r ∷ []), length rows)
 
--- a tuple: the end, then fields from last to first
+-- `}` over k values makes k + 1 rows: the end, then fields from last to first
 unfoldable pub addTuple : List Row → List ℕ → List Row × ℕ
 addTuple rows [] = add rows endRow
 addTuple rows (v ∷ vs) = let p = addTuple rows vs in add (p .0) (fieldRow v (p .1))
 
+-- each literal, `~`, `#`, `&` and tag makes one row as it is done
 unfoldable pub makeRows : Shape ℕ → List Row → List Row × ℕ
 makeRows (M.integer z) rows = add rows (integerRow z)
 makeRows (M.atom start b) rows = add rows (spanRow atomKind start b)
@@ -100,15 +101,19 @@ makeRows (M.cons v l) rows = add rows (consRow v l)
 makeRows (M.tuple vs) rows = addTuple rows vs
 makeRows (M.tag start b v) rows = add rows (tagRow start b v)
 
+-- row i; past the rows, one of no kind
 unfoldable pub rowAt : List Row → ℕ → Row
 rowAt rows i = getD rows i (row 0 0 0 0)
 
+-- the integer in a row of kind 1
 unfoldable pub integerOfRow : Row → ℤ
 integerOfRow r = fromBits 64 (r .first * 2 ^ 32 + r .second)
 
+-- what serves as a count
 unfoldable pub rowInteger : Row → Option ℤ
 rowInteger r = cond (eqb (r .kind) integerKind) (some (integerOfRow r)) none
 
+-- what serves as a list, and what as a tuple's rest
 unfoldable pub isListKind : ℕ → Bool
 isListKind k = eqb k nilKind || eqb k consKind
 
@@ -140,7 +145,7 @@ fieldsOf (T.tag b t) = T.none
 abbrev pub spanOf : List ℕ → ℕ → ℕ → List ℕ
 spanOf message start n = take n (drop start message)
 
--- what stands where no term is: neither an integer nor a list
+-- what stands where no term is; neither an integer nor a list, and nobody asks
 abbrev pub noTerm : Term
 noTerm = T.atom []
 
@@ -173,6 +178,7 @@ termAt message rows v = getD (termsAfter message [] rows) v noTerm
 abbrev pub rowWords : ℕ
 rowWords = 4
 
+-- the words of rows
 unfoldable pub wordsOf : List Row → List ℕ
 wordsOf [] = []
 wordsOf (r ∷ rows) = r .kind ∷ r .first ∷ r .second ∷ r .third ∷ wordsOf rows
@@ -182,6 +188,6 @@ unfoldable pub rowsOf : ℕ → List ℕ → List Row
 rowsOf zero words = []
 rowsOf (suc n) words = row (getD words 0 0) (getD words 1 0) (getD words 2 0) (getD words 3 0) ∷ rowsOf n (drop rowWords words)
 
--- the rows that a table of words has room for
+-- the rows that a table of words has room for: its words divided by four, rounded down, and at most the bound
 unfoldable pub rowRoom : List ℕ → ℕ
-rowRoom words = min (length words / rowWords) 65536
+rowRoom words = min (length words / rowWords) rowBound

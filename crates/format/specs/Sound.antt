@@ -20,10 +20,11 @@ spelled mark false (c ∷ r) = not (eqb c mark) && spelled mark (eqb c (code "\\
 unfoldable pub inSlice : List ℕ → ℕ → ℕ → Bool
 inSlice message start n = leb (start + n) (length message)
 
+-- a span inside the slice, spelled as between two marks
 unfoldable pub spelledIn : List ℕ → ℕ → ℕ → ℕ → Bool
 spelledIn message mark start n = inSlice message start n && spelled mark false (spanOf message start n)
 
--- piece 1: no more rows claimed than the table holds, nor than 65,536
+-- piece 1: no more rows claimed than the table holds, nor than the bound
 unfoldable pub countFits : List ℕ → ℕ → Bool
 countFits words used = leb used (rowRoom words)
 
@@ -58,14 +59,15 @@ soundAfter message earlier [] = true
 soundAfter message earlier (r ∷ rows) =
     soundRow message (length earlier) r && soundRest (r .kind) (rowAt earlier (r .second) .kind) && soundAfter message (earlier ++ (r ∷ [])) rows
 
+-- pieces 3 and 4 at every row used
 unfoldable pub soundRows : List ℕ → List Row → Bool
 soundRows message rows = soundAfter message [] rows
 
--- a table that is not refused by 16: the words lent, the rows claimed, the root
+-- refusal 16 is given exactly where this fails: the words lent, the rows claimed, the root
 unfoldable pub soundTable : List ℕ → List ℕ → ℕ → ℕ → Bool
 soundTable message words used root = countFits words used && rootAmong used root && soundRows message (rowsOf used words)
 
--- the terms that sound tables stand for: what a message can spell
+-- the terms that a message can spell, and that the rows of a sound table stand for
 unfoldable mutual
   pub soundTerm : Term → Bool
   soundTerm (T.int z) = inRange z

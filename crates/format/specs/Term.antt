@@ -3,7 +3,7 @@ use Prim.Native.Nat.{ℕ}
 use mathlib.Core.List.{List, [], _∷_}
 use lib.IntN.{ℤ}
 
--- atoms, strings and tags hold their bytes as spelled, escapes kept
+-- an integer; an atom or string with its bytes as spelled; a binary with its bytes; a list or tuple of terms; or a tag, as spelled, with a term
 mutual
   pub data Term : Type 0 where
     int : ℤ → Term
@@ -17,6 +17,7 @@ mutual
     _then_ : Term → Terms → Terms
 
 infixr 40 _then_
+-- terms given as a list of values
 unfoldable pub termsFrom : List Term → Terms
 termsFrom [] = none
 termsFrom (t ∷ ts) = t then termsFrom ts

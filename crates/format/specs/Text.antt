@@ -10,7 +10,7 @@ use lib.Dec.{ltb}
 use Rattle.format.specs.Term as T
 use Rattle.format.specs.Term.{Term, Terms, _then_}
 
--- the shortest decimal of n, most significant digit first; the first argument bounds the number of divisions, and n is enough
+-- the shortest decimal of n, most significant digit first; the first argument only bounds the divisions by ten, and n is enough
 unfoldable pub digitsOn : ℕ → ℕ → List ℕ → List ℕ
 digitsOn zero n rest = (code "0" + n) ∷ rest
 digitsOn (suc f) n rest = elim (ltb n 10) [
@@ -18,9 +18,11 @@ digitsOn (suc f) n rest = elim (ltb n 10) [
   | false ↦ digitsOn f (n / 10) ((code "0" + n % 10) ∷ rest)
 ]
 
+-- a count, without a blank
 unfoldable pub naturalOn : ℕ → List ℕ → List ℕ
 naturalOn n rest = digitsOn n n rest
 
+-- an integer, without its blank
 unfoldable pub decimalOn : ℤ → List ℕ → List ℕ
 decimalOn (pos n) rest = naturalOn n rest
 decimalOn (negsuc n) rest = code "-" ∷ naturalOn (suc n) rest
@@ -29,6 +31,7 @@ decimalOn (negsuc n) rest = code "-" ∷ naturalOn (suc n) rest
 abbrev pub between : ℕ → List ℕ → List ℕ → List ℕ
 between mark bytes rest = mark ∷ bytes ++ mark ∷ rest
 
+-- integer: decimal and one blank; atom, string: marks and bytes as spelled; binary: count, `~`, bytes, `~`; tag: inner text, then the tag
 unfoldable mutual
   pub textOn : Term → List ℕ → List ℕ
   textOn (T.int z) rest = decimalOn z (code " " ∷ rest)
@@ -39,11 +42,12 @@ unfoldable mutual
   textOn (T.tuple ts) rest = code "{" ∷ fieldsOn ts (code "}" ∷ rest)
   textOn (T.tag b t) rest = textOn t (between (code "`") b rest)
 
-  -- from last item to first, the item and `&`
+  -- a list's items, from last to first the item and `&`
   pub itemsOn : Terms → List ℕ → List ℕ
   itemsOn T.none rest = rest
   itemsOn (t then ts) rest = itemsOn ts (textOn t (code "&" ∷ rest))
 
+  -- a tuple's fields
   pub fieldsOn : Terms → List ℕ → List ℕ
   fieldsOn T.none rest = rest
   fieldsOn (t then ts) rest = textOn t (fieldsOn ts rest)

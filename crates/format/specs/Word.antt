@@ -10,7 +10,7 @@ use lib.Dec.{eqb, leb}
 use Rattle.format.specs.Byte.{bytesOf, sameBytes}
 use Rattle.format.specs.Term as T
 use Rattle.format.specs.Term.{Term}
-use Rattle.format.specs.Rows.{fromBits}
+use Rattle.format.specs.Bits.{fromBits}
 
 pub data Order : Type 0 where
   big little : Order
