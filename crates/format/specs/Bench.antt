@@ -169,7 +169,7 @@ refusals =
     ∷ on "," (refusal 4 0)
     ∷ []
 
--- messages that are accepted, with just enough room where a number of rooms stands
+-- messages that are accepted, the first two with just enough room
 unfoldable pub acceptances : List Line
 unfolding on bytesOf
 acceptances =
@@ -189,7 +189,8 @@ acceptances =
     (accepts 9 3 (row 1 0 1 0 ∷ row 7 0 0 0 ∷ row 8 0 1 0 ∷ row 8 0 2 0 ∷ []) (T.tuple (natural 1 then natural 1 then T.none)) (bytesOf "{1 1 }$"))
     ∷ on "1 >a2 >b#>ccb&a&$"
     (accepts 17 4 (row 1 0 1 0 ∷ row 1 0 2 0 ∷ row 5 0 0 0 ∷ row 6 1 2 0 ∷ row 6 0 3 0 ∷ []) (T.list (natural 1 then natural 2 then T.none)) (bytesOf "#2 &1 &$"))
-    -- a tag over a tag; an unnamed tag
+    -- a tag with no name; a tag over a tag
+    ∷ on "1 ``$" (accepts 5 1 (row 1 0 1 0 ∷ row 9 3 0 0 ∷ []) (T.tag [] (natural 1)) (bytesOf "1 ``$"))
     ∷ on "1 `a``b`$" (accepts 9 2 (row 1 0 1 0 ∷ row 9 3 1 0 ∷ row 9 6 1 1 ∷ []) (T.tag (bytesOf "b") (T.tag (bytesOf "a") (natural 1))) (bytesOf "1 `a``b`$"))
     ∷ on "{1 {2 }}$"
     (accepts 9 6 (row 1 0 1 0 ∷ row 1 0 2 0 ∷ row 7 0 0 0 ∷ row 8 1 2 0 ∷ row 7 0 0 0 ∷ row 8 3 4 0 ∷ row 8 0 5 0 ∷ [])
