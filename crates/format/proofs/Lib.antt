@@ -1,18 +1,28 @@
+-- The theorems about the definitions; README.md lists them by number.
+
+-- laws of tests, lists and tables
 pub mod Tests
 pub mod Lists
 pub mod Table
+-- the bench lines, and our own
 pub mod Bench
+-- what is known of an item that was read, and of each move of the machine
 pub mod Items
 pub mod Moves
 pub mod Growth
+-- the machine at rows and at terms
 pub mod Simulation
 pub mod SoundRows
+pub mod SoundTerms
+-- limits and counts
 pub mod Limits
 pub mod RowCount
+-- what an accepted decoding leaves
 pub mod Decoded
-pub mod SoundTerms
+-- plain text, read back
 pub mod FreeRun
 pub mod ReadBack
-pub mod Suffix
 pub mod Sizes
 pub mod Rounds
+-- bytes appended or changed after the end
+pub mod Suffix
