@@ -4,21 +4,21 @@ use Rattle.format.specs.Byte as B
 use Rattle.format.specs.Byte.{bytesOf, sameBytes, classOf, classIn, specials, hasClass, countBelow}
 use Rattle.format.specs.Term.{termsFrom}
 use Rattle.format.specs.Text.{digitsOn, naturalOn, decimalOn, textOn, plain}
-use Rattle.format.specs.Lex.{scan, markedItem, digits, inRange, integerOf, negative, store, itemOf, lex}
+use Rattle.format.specs.Lex.{scan, quotedItem, digits, inRange, integerOf, negative, store, itemOf, lex}
 use Rattle.format.specs.Lex as L
-use Rattle.format.specs.Machine.{base, start, fresh, onStack, setRegister, pop, takeBinary, consList, closeTuple, pushRegister, onlyValue, endMessage, step, bounded, follow, runFrom, run}
+use Rattle.format.specs.Machine.{base, start, fresh, setRegister, pop, takeBinary, consList, closeTuple, pushRegister, onlyValue, endMessage, step, bounded, follow, runFrom, run}
 use Rattle.format.specs.Meaning.{termInteger, termIsList, itemsOf, termOf}
 use Rattle.format.specs.Bits.{toBits, fromBits}
 use Rattle.format.specs.Rows.{integerRow, spanRow, nilRow, consRow, endRow, fieldRow, tagRow, add, addTuple, makeRows, rowAt, integerOfRow, rowInteger, isListKind, isTupleKind, fieldsOf, termOfRow, termsAfter, termAt, wordsOf, rowsOf, rowRoom}
 use Rattle.format.specs.Sound.{spelled, inSlice, spelledIn, countFits, rootAmong, soundRow, soundRest, soundAfter, soundRows, soundTable}
 use Rattle.format.specs.Word.{formats, formatIn, joinAfter, joined, wordOf, wordIn, wordUnder, wordNamed, wordOfTerm}
 use Rattle.format.specs.Answer.{writeRefusal, writeText, writeAnswer, compareRefusal, compareAnswer, wordAnswer, overBound, zeroed, limitsOf, rowsIn, cleared, decodeRefusal, decodeResult, decodeAnswer}
-use Rattle.format.specs.Bench.{lend, claimOf, claimed, told, toldAll, marked, refusals, acceptances}
+use Rattle.format.specs.Bench.{lend, claimOf, claimed, told, toldAll, markedP, refusals, acceptances}
 use Rattle.format.specs.Cases.{toldCase, toldCases, small, decodedCase, decoded, writtenCase, comparedCase, wordCase, decoding, soundness, writing, comparing, reading}
 
 -- one name for the definitions that running a message goes through
 unfoldable pub machine : Unit {0}
-unfolding bytesOf classOf classIn specials hasClass termsFrom scan markedItem L.marked digits inRange integerOf negative store itemOf lex base start fresh onStack setRegister pop takeBinary consList closeTuple pushRegister onlyValue endMessage step bounded follow runFrom run termInteger termIsList itemsOf termOf toBits fromBits integerRow spanRow nilRow consRow endRow fieldRow tagRow add addTuple makeRows rowAt integerOfRow rowInteger isListKind
+unfolding bytesOf classOf classIn specials hasClass termsFrom scan quotedItem L.quoted digits inRange integerOf negative store itemOf lex base start fresh setRegister pop takeBinary consList closeTuple pushRegister onlyValue endMessage step bounded follow runFrom run termInteger termIsList itemsOf termOf toBits fromBits integerRow spanRow nilRow consRow endRow fieldRow tagRow add addTuple makeRows rowAt integerOfRow rowInteger isListKind
 machine = tt
 
 -- and one for what the answers add to that
@@ -27,8 +27,8 @@ unfolding machine digitsOn naturalOn decimalOn textOn plain wordsOf rowsOf rowRo
 answering = tt
 
 -- the lines marked P, and by the same statement our own
-pub bench : (toldAll marked ≡ marked) × (toldAll refusals ≡ refusals) × (toldAll acceptances ≡ acceptances)
-unfolding answering claimOf claimed told toldAll marked refusals acceptances
+pub bench : (toldAll markedP ≡ markedP) × (toldAll refusals ≡ refusals) × (toldAll acceptances ≡ acceptances)
+unfolding answering claimOf claimed told toldAll markedP refusals acceptances
 bench = (refl, refl, refl)
 
 -- our cases for what the answers add

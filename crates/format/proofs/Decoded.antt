@@ -21,7 +21,7 @@ use Rattle.format.proofs.RowCount.{machine-number}
 
 -- theorem 2, second half: the term at an accepted message's root row is the term of the message by its bytes alone
 pub root-term : (lim : Limits) (message : List ℕ) (consumed : ℕ) (res : Result rowValues) → run rowValues lim message ≡ accepted consumed res
-    → messageTerm message ≡ some (termAt message (res .store) (res .root))
+    → messageTerm message ≡ some (termAt message (res .memory) (res .root))
 unfolding messageTerm acceptedValue inTerms
 root-term lim message consumed res e =
     ap acceptedValue (accepted-free termValues lim message consumed _ (sym (same-answer message lim) ∙ ap (inTerms message) e))
@@ -66,16 +66,16 @@ accepts message t z = cases (overBound message) (ltb (length (t .registers)) reg
 
 module _ (message : List ℕ) (t : Tables) where
   -- the rows of an accepted message, lying in the table lent
-  result-sound : (consumed : ℕ) (res : Result rowValues) → run rowValues (limitsOf t) message ≡ accepted consumed res → T (soundTable message (rowsIn (t .rows) (res .store)) (res .rows) (res .root))
+  result-sound : (consumed : ℕ) (res : Result rowValues) → run rowValues (limitsOf t) message ≡ accepted consumed res → T (soundTable message (rowsIn (t .rows) (res .memory)) (res .used) (res .root))
   unfolding soundTable countFits rootAmong limitsOf rowRoom
   result-sound consumed res e =
-      let words = rowsIn (t .rows) (res .store) in
+      let words = rowsIn (t .rows) (res .memory) in
       let a = accepted-rows message (limitsOf t) consumed res e in
-      let room : res .rows ≤ rowRoom (t .rows) = rows-fit rowValues (limitsOf t) message consumed res e in
-      let same : length words ≡ length (t .rows) = rows-length (t .rows) (res .store) (omega (arith, a .count)) in
-      let lies : rowsOf (res .rows) words ≡ res .store = rw (← a .count) (rows-in (t .rows) (res .store)) in
-      both (leb (res .rows) (rowRoom words) && ltb (res .root) (res .rows)) (soundRows message (rowsOf (res .rows) words))
-      (both (leb (res .rows) (rowRoom words)) (ltb (res .root) (res .rows)) (le→leb (res .rows) (rowRoom words) (rw same room)) (lt→ltb (res .root) (res .rows) (a .root)))
+      let room : res .used ≤ rowRoom (t .rows) = rows-fit rowValues (limitsOf t) message consumed res e in
+      let same : length words ≡ length (t .rows) = rows-length (t .rows) (res .memory) (omega (arith, a .count)) in
+      let lies : rowsOf (res .used) words ≡ res .memory = rw (← a .count) (rows-in (t .rows) (res .memory)) in
+      both (leb (res .used) (rowRoom words) && ltb (res .root) (res .used)) (soundRows message (rowsOf (res .used) words))
+      (both (leb (res .used) (rowRoom words)) (ltb (res .root) (res .used)) (le→leb (res .used) (rowRoom words) (rw same room)) (lt→ltb (res .root) (res .used) (a .root)))
       (rw lies (a .sound))
 
   module _ (z : decodeAnswer message t .number ≡ 0) where

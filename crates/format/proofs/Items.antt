@@ -1,4 +1,4 @@
--- What is known of an item that was read: its bytes are in the slice, an integer is in range, marked bytes are well spelled.
+-- What is known of an item that was read: its bytes are in the slice, an integer is in range, quoted bytes are well spelled.
 use Prim.Native.Nat.{ℕ, suc, _+_, _*_, _-_, _≤_, _<_}
 use Prim.Native.Char.{code}
 use mathlib.Core.Path.{_≡_, refl}
@@ -11,20 +11,20 @@ use lib.Dec.{eqb, T}
 use Rattle.format.specs.Byte as B
 use Rattle.format.specs.Byte.{Class, classOf, hasClass}
 use Rattle.format.specs.Lex as L
-use Rattle.format.specs.Lex.{Item, Scan, Digits, inRange, lex, scan, digits, integerOf, marked, markedItem, negative, store, itemOf}
+use Rattle.format.specs.Lex.{Item, Scan, Digits, inRange, lex, scan, digits, integerOf, quoted, quotedItem, negative, store, itemOf}
 use Rattle.format.specs.Sound.{spelled}
 
 -- k bytes of r are spelled between two marks, and the closing mark follows them
-pub record Marked (mark : ℕ) (r : List ℕ) (k : ℕ) : Type 0 where
-  pub spells : T (spelled mark false (take k r))
+pub record Quoted (quote : ℕ) (r : List ℕ) (k : ℕ) : Type 0 where
+  pub spells : T (spelled quote false (take k r))
   pub inside : k < length r
 
 abbrev pub ItemOk : List ℕ → Item → Type 0
 ItemOk r L.whiteItem = Unit {0}
 ItemOk r (L.commentItem k) = k < length r
-ItemOk r (L.atomItem k) = Marked (code "'") r k
-ItemOk r (L.stringItem k) = Marked (code "\"") r k
-ItemOk r (L.tagItem k) = Marked (code "`") r k
+ItemOk r (L.atomItem k) = Quoted (code "'") r k
+ItemOk r (L.stringItem k) = Quoted (code "\"") r k
+ItemOk r (L.tagItem k) = Quoted (code "`") r k
 ItemOk r (L.integerItem z k) = T (inRange z) × (k ≤ length r)
 ItemOk r L.openItem = Unit {0}
 ItemOk r L.closeItem = Unit {0}
@@ -39,42 +39,42 @@ ItemOk r (L.stray k) = Unit {0}
 ItemOk r L.tooLarge = Unit {0}
 
 -- a scan that has passed j bytes closes after k: `far` bytes on, all well spelled
-record Closes (mark : ℕ) (escaped : Bool) (j : ℕ) (r : List ℕ) (k : ℕ) : Type 0 where
+record Closes (quote : ℕ) (escaped : Bool) (j : ℕ) (r : List ℕ) (k : ℕ) : Type 0 where
   far : ℕ
   adds : k ≡ j + far
   inside : far < length r
-  spells : T (spelled mark escaped (take far r))
+  spells : T (spelled quote escaped (take far r))
 
 abbrev ScanOk : ℕ → Bool → ℕ → List ℕ → Scan → Type 0
-ScanOk mark escaped j r Scan.ended = Unit {0}
-ScanOk mark escaped j r (L.strayAt k) = Unit {0}
-ScanOk mark escaped j r (L.closedAt k) = Closes mark escaped j r k
+ScanOk quote escaped j r Scan.ended = Unit {0}
+ScanOk quote escaped j r (L.strayAt k) = Unit {0}
+ScanOk quote escaped j r (L.closedAt k) = Closes quote escaped j r k
 
 -- one byte more in front
-scan-more : (mark : ℕ) (before after : Bool) (j c : ℕ) (r : List ℕ) → ((b : List ℕ) → T (spelled mark after b) → T (spelled mark before (c ∷ b)))
-    → (s : Scan) → ScanOk mark after (suc j) r s → ScanOk mark before j (c ∷ r) s
-scan-more mark before after j c r f Scan.ended h = tt
-scan-more mark before after j c r f (L.strayAt k) h = tt
-scan-more mark before after j c r f (L.closedAt k) h = record {
+scan-more : (quote : ℕ) (before after : Bool) (j c : ℕ) (r : List ℕ) → ((b : List ℕ) → T (spelled quote after b) → T (spelled quote before (c ∷ b)))
+    → (s : Scan) → ScanOk quote after (suc j) r s → ScanOk quote before j (c ∷ r) s
+scan-more quote before after j c r f Scan.ended h = tt
+scan-more quote before after j c r f (L.strayAt k) h = tt
+scan-more quote before after j c r f (L.closedAt k) h = record {
   far = suc (h .far);
   adds = omega (arith, h .adds);
   inside = omega (arith, h .inside);
   spells = f (take (h .far) r) (h .spells);
 }
 
-scan-ok : (mark : ℕ) (escaped : Bool) (j : ℕ) (r : List ℕ) → ScanOk mark escaped j r (scan mark escaped j r)
+scan-ok : (quote : ℕ) (escaped : Bool) (j : ℕ) (r : List ℕ) → ScanOk quote escaped j r (scan quote escaped j r)
 unfolding scan spelled
-scan-ok mark escaped j [] = tt
-scan-ok mark true j (c ∷ r) = cases (eqb c (code "\\") || eqb c mark) refl (scan-ok mark false (suc j) r)
+scan-ok quote escaped j [] = tt
+scan-ok quote true j (c ∷ r) = cases (eqb c (code "\\") || eqb c quote) refl (scan-ok quote false (suc j) r)
   where
-    cases : (b : Bool) → (eqb c (code "\\") || eqb c mark) ≡ b → ScanOk mark false (suc j) r (scan mark false (suc j) r) → ScanOk mark true j (c ∷ r) (scan mark true j (c ∷ r))
-    cases true e h = rw (e, scan) (scan-more mark true false j c r (λ b t. rw e t) (scan mark false (suc j) r) h)
+    cases : (b : Bool) → (eqb c (code "\\") || eqb c quote) ≡ b → ScanOk quote false (suc j) r (scan quote false (suc j) r) → ScanOk quote true j (c ∷ r) (scan quote true j (c ∷ r))
+    cases true e h = rw (e, scan) (scan-more quote true false j c r (λ b t. rw e t) (scan quote false (suc j) r) h)
     cases false e h = rw (e, scan) tt
-scan-ok mark false j (c ∷ r) = cases (eqb c mark) refl (scan-ok mark (eqb c (code "\\")) (suc j) r)
+scan-ok quote false j (c ∷ r) = cases (eqb c quote) refl (scan-ok quote (eqb c (code "\\")) (suc j) r)
   where
-    cases : (b : Bool) → eqb c mark ≡ b → ScanOk mark (eqb c (code "\\")) (suc j) r (scan mark (eqb c (code "\\")) (suc j) r) → ScanOk mark false j (c ∷ r) (scan mark false j (c ∷ r))
+    cases : (b : Bool) → eqb c quote ≡ b → ScanOk quote (eqb c (code "\\")) (suc j) r (scan quote (eqb c (code "\\")) (suc j) r) → ScanOk quote false j (c ∷ r) (scan quote false j (c ∷ r))
     cases true e h = rw (e, scan) (record { far = 0; adds = omega arith; inside = omega arith; spells = tt })
-    cases false e h = rw (e, scan) (scan-more mark false (eqb c (code "\\")) j c r (λ b t. rw e t) (scan mark (eqb c (code "\\")) (suc j) r) h)
+    cases false e h = rw (e, scan) (scan-more quote false (eqb c (code "\\")) j c r (λ b t. rw e t) (scan quote (eqb c (code "\\")) (suc j) r) h)
 
 abbrev DigitsOk : ℕ → List ℕ → Digits → Type 0
 DigitsOk j r L.unfinished = Unit {0}
@@ -102,11 +102,11 @@ unfolding integerOf
 integer-ok sign r L.unfinished h = tt
 integer-ok sign r (L.value v k) h = cond-ok r (inRange (sign v)) (L.integerItem (sign v) k) L.tooLarge (λ t. (t, omega arith)) tt
 
-marked-ok : (mark : ℕ) (item : ℕ → Item) (r : List ℕ) → ((k : ℕ) → Marked mark r k → ItemOk r (item k)) → ItemOk r (marked mark item r)
-unfolding marked markedItem
-marked-ok mark item r h = closes (scan mark false 0 r) (scan-ok mark false 0 r)
+quoted-ok : (quote : ℕ) (item : ℕ → Item) (r : List ℕ) → ((k : ℕ) → Quoted quote r k → ItemOk r (item k)) → ItemOk r (quoted quote item r)
+unfolding quoted quotedItem
+quoted-ok quote item r h = closes (scan quote false 0 r) (scan-ok quote false 0 r)
   where
-    closes : (s : Scan) → ScanOk mark false 0 r s → ItemOk r (markedItem item s)
+    closes : (s : Scan) → ScanOk quote false 0 r s → ItemOk r (quotedItem item s)
     closes Scan.ended g = tt
     closes (L.strayAt k) g = tt
     closes (L.closedAt k) g =
@@ -130,10 +130,10 @@ unfolding itemOf
 item-ok B.white c r = tt
 item-ok B.digit c r = integer-ok (λ v. pos v) r (digits (c - code "0") 0 r) (digits-ok (c - code "0") 0 r)
 item-ok B.minus c r = negative-ok r
-item-ok B.atomMark c r = marked-ok (code "'") L.atomItem r (λ k m. m)
-item-ok B.stringMark c r = marked-ok (code "\"") L.stringItem r (λ k m. m)
-item-ok B.tagMark c r = marked-ok (code "`") L.tagItem r (λ k m. m)
-item-ok B.commentMark c r = marked-ok (code "%") L.commentItem r (λ k m. m .inside)
+item-ok B.atomQuote c r = quoted-ok (code "'") L.atomItem r (λ k m. m)
+item-ok B.stringQuote c r = quoted-ok (code "\"") L.stringItem r (λ k m. m)
+item-ok B.tagQuote c r = quoted-ok (code "`") L.tagItem r (λ k m. m)
+item-ok B.commentQuote c r = quoted-ok (code "%") L.commentItem r (λ k m. m .inside)
 item-ok B.leftBrace c r = tt
 item-ok B.rightBrace c r = tt
 item-ok B.tilde c r = tt

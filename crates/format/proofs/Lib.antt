@@ -6,6 +6,7 @@ pub mod Lists
 pub mod Table
 -- the bench lines, and our own
 pub mod Bench
+pub mod Bounds
 -- what is known of an item that was read, and of each move of the machine
 pub mod Items
 pub mod Moves
@@ -26,3 +27,4 @@ pub mod Sizes
 pub mod Rounds
 -- bytes appended or changed after the end
 pub mod Suffix
+pub mod Unchanged

@@ -97,7 +97,7 @@ module _ (𝒱 : Values) (lim : Limits) where
   free-from (c ∷ r) zero at used m h =
       let a = adds 𝒱 (M.step 𝒱 at r m (lex c r)) (move 𝒱 at r m (lex c r) (lex-ok c r)) in
       let next : ℕ → ℕ → Machine 𝒱 → Outcome (Result 𝒱) = λ k w m′. M.runFrom 𝒱 lim r k (suc at) (used + w) m′ in
-      let end : 𝒱 .Value → Outcome (Result 𝒱) = λ v. accepted (suc at) (record { rows = used; root = v; store = m .store }) in
+      let end : 𝒱 .Value → Outcome (Result 𝒱) = λ v. accepted (suc at) (record { used = used; root = v; memory = m .memory }) in
       ap (λ (s : Step 𝒱). valueOnly (M.follow 𝒱 s next end)) (bounded-idle at used c r m _ h a)
       ∙ follow-free used c r m next end _ _ h (λ k w m′ h′. free-from r k (suc at) (used + w) m′ h′) (λ v. refl) _ a
 
@@ -110,7 +110,7 @@ module _ (𝒱 : Values) (lim : Limits) where
   -- an accepted message's rows have room
   abbrev Holds : Outcome (Result 𝒱) → Type 0
   Holds (refused n p) = Unit {0}
-  Holds (accepted k res) = res .rows ≤ lim .rows
+  Holds (accepted k res) = res .used ≤ lim .rows
 
   follow-unless : (c : Bool) (n p : ℕ) (s : Step 𝒱) (next : ℕ → ℕ → Machine 𝒱 → Outcome (Result 𝒱)) (end : 𝒱 .Value → Outcome (Result 𝒱))
       → (c ≡ false → Holds (M.follow 𝒱 s next end)) → Holds (M.follow 𝒱 (cond c (refuse n p) s) next end)
@@ -135,6 +135,6 @@ module _ (𝒱 : Values) (lim : Limits) where
   holds-rows (c ∷ r) (suc k) at used m h = holds-rows r k (suc at) used m h
   holds-rows (c ∷ r) zero at used m h = follow-holds at used _ _ (λ k w m′ h′. holds-rows r k (suc at) (used + w) m′ h′) (λ v. h) (M.step 𝒱 at r m (lex c r))
 
-  pub rows-fit : (message : List ℕ) (consumed : ℕ) (res : Result 𝒱) → run 𝒱 lim message ≡ accepted consumed res → res .rows ≤ lim .rows
+  pub rows-fit : (message : List ℕ) (consumed : ℕ) (res : Result 𝒱) → run 𝒱 lim message ≡ accepted consumed res → res .used ≤ lim .rows
   unfolding run
   rows-fit message consumed res e = subst Holds e (holds-rows message 0 0 0 (M.start 𝒱) (omega arith))

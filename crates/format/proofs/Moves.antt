@@ -14,9 +14,9 @@ use Rattle.format.specs.Lex as L
 use Rattle.format.specs.Lex.{Item, inRange, lex}
 use Rattle.format.specs.Machine as M
 use Rattle.format.specs.Machine.{Values, Machine, Shape, Limits, Step, Outcome, Result, base, refuse, go, finish, refused, accepted}
-use Rattle.format.proofs.Items.{ItemOk, Marked, lex-ok}
+use Rattle.format.proofs.Items.{ItemOk, Quoted, lex-ok}
 
--- the refusals of the machine itself: 1 and 2 come before it, 15 and 16 from writer and comparison, 18 to 20 from the word reader
+-- a refusal of the machine has a number from 3 to 17, and so is neither an acceptance nor one of the refusals before it
 abbrev pub MachineNumber : ℕ → Type 0
 MachineNumber n = (3 ≤ n) × (n ≤ 17)
 
@@ -29,24 +29,24 @@ module _ (𝒱 : Values) (at : ℕ) (r : List ℕ) (m : Machine 𝒱) where
   -- the shapes of which one row is made, with the stack that the new value comes on
   pub data Making : Shape (𝒱 .Value) → List (𝒱 .Value) → Type 0 where
     integers : (z : ℤ) → T (inRange z) → Making (M.integer z) (m .stack)
-    atoms : (k : ℕ) → Marked (code "'") r k → Making (M.atom (suc at) (take k r)) (m .stack)
-    strings : (k : ℕ) → Marked (code "\"") r k → Making (M.string (suc at) (take k r)) (m .stack)
-    binaries : (n : ℕ) (v : 𝒱 .Value) {st : List (𝒱 .Value)} → Popped (m .stack) v st → 𝒱 .integerIn (m .store) v ≡ some (pos n) → n < length r
+    atoms : (k : ℕ) → Quoted (code "'") r k → Making (M.atom (suc at) (take k r)) (m .stack)
+    strings : (k : ℕ) → Quoted (code "\"") r k → Making (M.string (suc at) (take k r)) (m .stack)
+    binaries : (n : ℕ) (v : 𝒱 .Value) {st : List (𝒱 .Value)} → Popped (m .stack) v st → 𝒱 .integerIn (m .memory) v ≡ some (pos n) → n < length r
         → Making (M.binary (suc at) (take n r)) st
     nils : Making M.nil (m .stack)
-    conses : (v l : 𝒱 .Value) {mid st : List (𝒱 .Value)} → Popped (m .stack) v mid → Popped mid l st → 𝒱 .isList (m .store) l ≡ true → Making (M.cons v l) st
-    tags : (k : ℕ) (v : 𝒱 .Value) {st : List (𝒱 .Value)} → Popped (m .stack) v st → Marked (code "`") r k → Making (M.tag (suc at) (take k r) v) st
+    conses : (v l : 𝒱 .Value) {mid st : List (𝒱 .Value)} → Popped (m .stack) v mid → Popped mid l st → 𝒱 .isList (m .memory) l ≡ true → Making (M.cons v l) st
+    tags : (k : ℕ) (v : 𝒱 .Value) {st : List (𝒱 .Value)} → Popped (m .stack) v st → Quoted (code "`") r k → Making (M.tag (suc at) (take k r) v) st
 
   pub data Move : Step 𝒱 → Type 0 where
     stops : (n p : ℕ) → MachineNumber n → Move (refuse n p)
     rests : (k : ℕ) → Move (go k 0 m)
     makes : (k : ℕ) {shape : Shape (𝒱 .Value)} {st : List (𝒱 .Value)} → Making shape st → Move (go k 1 (M.fresh 𝒱 at shape st (m .marks) m))
-    opens : Move (go 0 0 (record { stack = m .stack; marks = length (m .stack) ∷ m .marks; registers = m .registers; store = m .store }))
+    opens : Move (go 0 0 (record { stack = m .stack; marks = length (m .stack) ∷ m .marks; registers = m .registers; memory = m .memory }))
     tuples : (d k : ℕ) (ds : List ℕ) → m .marks ≡ d ∷ ds → d + k ≡ length (m .stack)
         → Move (go 0 (suc k) (M.fresh 𝒱 at (M.tuple (reverse (take k (m .stack)))) (drop k (m .stack)) ds m))
     stores : (x : ℕ) (v : 𝒱 .Value) {st : List (𝒱 .Value)} → Popped (m .stack) v st
-        → Move (go 1 0 (record { stack = st; marks = m .marks; registers = M.setRegister 𝒱 x v (m .registers); store = m .store }))
-    pushes : (x : ℕ) (v : 𝒱 .Value) → m .registers x ≡ some v → Move (go 0 0 (M.onStack 𝒱 (v ∷ m .stack) m))
+        → Move (go 1 0 (record { stack = st; marks = m .marks; registers = M.setRegister 𝒱 x v (m .registers); memory = m .memory }))
+    pushes : (x : ℕ) (v : 𝒱 .Value) → m .registers x ≡ some v → Move (go 0 0 (record { stack = v ∷ m .stack; marks = m .marks; registers = m .registers; memory = m .memory }))
     ends : (v : 𝒱 .Value) → m .stack ≡ v ∷ [] → Move (finish v)
 
   -- a test that refuses, or goes on where it fails
@@ -66,7 +66,7 @@ module _ (𝒱 : Values) (at : ℕ) (r : List ℕ) (m : Machine 𝒱) where
   pop-move (v ∷ st) next f =
       unless (ltb (length st) (base (m .marks))) 6 at (next v st) (omega arith) (λ e. f v st (record { splits = refl; above = ltb-false (length st) (base (m .marks)) e }))
 
-  binary-move : (v : 𝒱 .Value) (st : List (𝒱 .Value)) → Popped (m .stack) v st → (o : Option ℤ) → 𝒱 .integerIn (m .store) v ≡ o → Move (M.takeBinary 𝒱 at r m st o)
+  binary-move : (v : 𝒱 .Value) (st : List (𝒱 .Value)) → Popped (m .stack) v st → (o : Option ℤ) → 𝒱 .integerIn (m .memory) v ≡ o → Move (M.takeBinary 𝒱 at r m st o)
   unfolding M.takeBinary
   binary-move v st p none e = stops 7 at (omega arith)
   binary-move v st p (some (negsuc n)) e = stops 8 at (omega arith)
@@ -76,7 +76,7 @@ module _ (𝒱 : Values) (at : ℕ) (r : List ℕ) (m : Machine 𝒱) where
 
   cons-move : (v l : 𝒱 .Value) (mid st : List (𝒱 .Value)) → Popped (m .stack) v mid → Popped mid l st → Move (M.consList 𝒱 at m v l st)
   unfolding M.consList
-  cons-move v l mid st p q = only-if (𝒱 .isList (m .store) l) 7 at _ (omega arith) (λ t. makes 0 (conses v l p q t))
+  cons-move v l mid st p q = only-if (𝒱 .isList (m .memory) l) 7 at _ (omega arith) (λ t. makes 0 (conses v l p q t))
 
   close-move : (ds : List ℕ) → m .marks ≡ ds → Move (M.closeTuple 𝒱 at m ds)
   unfolding M.closeTuple
@@ -110,7 +110,7 @@ module _ (𝒱 : Values) (at : ℕ) (r : List ℕ) (m : Machine 𝒱) where
   move (L.integerItem z k) h = makes k (integers z (h .0))
   move L.openItem h = opens
   move L.closeItem h = close-move (m .marks) refl
-  move L.tildeItem h = pop-move (m .stack) _ (λ v st p. binary-move v st p (𝒱 .integerIn (m .store) v) refl)
+  move L.tildeItem h = pop-move (m .stack) _ (λ v st p. binary-move v st p (𝒱 .integerIn (m .memory) v) refl)
   move L.hashItem h = makes 0 nils
   move L.ampersandItem h = pop-move (m .stack) _ (λ v mid p. pop-move mid _ (λ l st q. cons-move v l mid st p q))
   move L.endItem h = end-move (m .marks)
@@ -126,7 +126,7 @@ module _ (𝒱 : Values) (lim : Limits) (Inv : ℕ → List ℕ → ℕ → Mach
   abbrev pub Next : ℕ → List ℕ → ℕ → Machine 𝒱 → Step 𝒱 → Type 0
   Next at r used m (refuse n p) = MachineNumber n
   Next at r used m (go k w m′) = Inv (suc at) r (used + w) m′
-  Next at r used m (finish v) = End (suc at) (record { rows = used; root = v; store = m .store })
+  Next at r used m (finish v) = End (suc at) (record { used = used; root = v; memory = m .memory })
 
   abbrev pub AtEnd : Outcome (Result 𝒱) → Type 0
   AtEnd (refused n p) = MachineNumber n
@@ -147,7 +147,7 @@ module _ (𝒱 : Values) (lim : Limits) (Inv : ℕ → List ℕ → ℕ → Mach
 
     next-follow : (next : ℕ → ℕ → Machine 𝒱 → Outcome (Result 𝒱)) (end : 𝒱 .Value → Outcome (Result 𝒱))
         → ((k w : ℕ) (m′ : Machine 𝒱) → Inv (suc at) r (used + w) m′ → AtEnd (next k w m′))
-        → ((v : 𝒱 .Value) → End (suc at) (record { rows = used; root = v; store = m .store }) → AtEnd (end v))
+        → ((v : 𝒱 .Value) → End (suc at) (record { used = used; root = v; memory = m .memory }) → AtEnd (end v))
         → (s : Step 𝒱) → Next at r used m s → AtEnd (M.follow 𝒱 s next end)
     unfolding M.follow
     next-follow next end f g (refuse n p) h = h

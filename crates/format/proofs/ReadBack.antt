@@ -17,7 +17,7 @@ use Rattle.format.specs.Byte.{classOf, classIn, specials, hasClass}
 use Rattle.format.specs.Term as T
 use Rattle.format.specs.Term.{Term, Terms, _then_, termsFrom}
 use Rattle.format.specs.Text.{digitsOn, naturalOn, decimalOn, between, textOn, itemsOn, fieldsOn, plain}
-use Rattle.format.specs.Lex.{Item, integerItem, atomItem, stringItem, tagItem, closedAt, scan, markedItem, marked, digits, inRange, integerOf, negative, itemOf, lex}
+use Rattle.format.specs.Lex.{Item, integerItem, atomItem, stringItem, tagItem, closedAt, scan, quotedItem, quoted, digits, inRange, integerOf, negative, itemOf, lex}
 use Rattle.format.specs.Machine.{Machine, Limits, Outcome, Result, refused, accepted, run, go, base, start, fresh, takeBinary, consList, onlyValue, endMessage, step, follow, runFreeFrom, runFree}
 use Rattle.format.specs.Meaning.{termInteger, termIsList, itemsOf, termOf, termValues, acceptedValue, messageTerm}
 use Rattle.format.specs.Sound.{spelled, soundTerm, soundTerms}
@@ -26,22 +26,22 @@ use Rattle.format.proofs.Limits.{Under, NoRoom, refuses, accepts, short
 use Rattle.format.proofs.FreeRun.{free-go, free-skip, pop-ok, close-ok}
 
 -- the closing mark is found where the spelled bytes end
-scan-spelled : (mark : ℕ) (escaped : Bool) (k : ℕ) (b r : List ℕ) → T (spelled mark escaped b) → scan mark escaped k (b ++ mark ∷ r) ≡ closedAt (k + length b)
+scan-spelled : (quote : ℕ) (escaped : Bool) (k : ℕ) (b r : List ℕ) → T (spelled quote escaped b) → scan quote escaped k (b ++ quote ∷ r) ≡ closedAt (k + length b)
 unfolding scan spelled
-scan-spelled mark true k [] r t = absurd t
-scan-spelled mark false k [] r t = rw (true-of (eqb mark mark) (eqb-refl mark), scan) (ap closedAt (sym (add-zero k)))
-scan-spelled mark true k (c ∷ b) r t =
-    let ok = eqb c (code "\\") || eqb c mark in
-    rw (true-of ok (left-of ok (spelled mark false b) t), scan)
-    (scan-spelled mark false (suc k) b r (right-of ok (spelled mark false b) t) ∙ ap closedAt (omega arith))
-scan-spelled mark false k (c ∷ b) r t =
+scan-spelled quote true k [] r t = absurd t
+scan-spelled quote false k [] r t = rw (true-of (eqb quote quote) (eqb-refl quote), scan) (ap closedAt (sym (add-zero k)))
+scan-spelled quote true k (c ∷ b) r t =
+    let ok = eqb c (code "\\") || eqb c quote in
+    rw (true-of ok (left-of ok (spelled quote false b) t), scan)
+    (scan-spelled quote false (suc k) b r (right-of ok (spelled quote false b) t) ∙ ap closedAt (omega arith))
+scan-spelled quote false k (c ∷ b) r t =
     let after = eqb c (code "\\") in
-    rw (false-of (eqb c mark) (left-of (not (eqb c mark)) (spelled mark after b) t), scan)
-    (scan-spelled mark after (suc k) b r (right-of (not (eqb c mark)) (spelled mark after b) t) ∙ ap closedAt (omega arith))
+    rw (false-of (eqb c quote) (left-of (not (eqb c quote)) (spelled quote after b) t), scan)
+    (scan-spelled quote after (suc k) b r (right-of (not (eqb c quote)) (spelled quote after b) t) ∙ ap closedAt (omega arith))
 
-marked-spelled : (mark : ℕ) (item : ℕ → Item) (b r : List ℕ) → T (spelled mark false b) → marked mark item (b ++ mark ∷ r) ≡ item (length b)
-unfolding marked markedItem
-marked-spelled mark item b r t = rw (scan-spelled mark false 0 b r t, zero-add)
+quoted-spelled : (quote : ℕ) (item : ℕ → Item) (b r : List ℕ) → T (spelled quote false b) → quoted quote item (b ++ quote ∷ r) ≡ item (length b)
+unfolding quoted quotedItem
+quoted-spelled quote item b r t = rw (scan-spelled quote false 0 b r t, zero-add)
 
 digit-class : (d : ℕ) → d < 10 → classOf (code "0" + d) ≡ B.digit
 unfolding classOf classIn specials
@@ -108,7 +108,7 @@ integer-ends sign v k stop r d h = rw (d, digits) (rw (true-of (inRange (sign v)
 
 -- with stack and marks given; a plain text uses no register
 abbrev state : List Term → List ℕ → Machine termValues
-state st marks = record { stack = st; marks = marks; registers = λ r. none; store = tt }
+state st marks = record { stack = st; marks = marks; registers = λ r. none; memory = tt }
 
 -- the run from m on text comes to m′ on rest
 record Reads (text rest : List ℕ) (m m′ : Machine termValues) (at : ℕ) : Type 0 where
@@ -154,26 +154,26 @@ stepping = tt
 -- the items that a plain text is made of, in front of rest
 module _ (rest : List ℕ) (st : List Term) (marks : List ℕ) (at : ℕ) where
   -- bytes between two marks, where the item makes `make` of them
-  read-marked : (mark : ℕ) (item : ℕ → Item) (make : List ℕ → Term) (before : List Term)
-      → ((r : List ℕ) → lex mark r ≡ marked mark item r)
+  read-quoted : (quote : ℕ) (item : ℕ → Item) (make : List ℕ → Term) (before : List Term)
+      → ((r : List ℕ) → lex quote r ≡ quoted quote item r)
       → ((k : ℕ) (r : List ℕ) → step termValues at r (state before marks) (item k) ≡ go (suc k) 1 (state (make (take k r) ∷ st) marks))
-      → (b : List ℕ) → T (spelled mark false b) → Reads (between mark b rest) rest (state before marks) (state (make b ∷ st) marks) at
-  read-marked mark item make before lexed stepped b t =
-      read-item mark (b ++ (mark ∷ [])) 1 (sym (append-assoc b (mark ∷ []) rest))
-      (rw (lexed, marked-spelled mark item b rest t, stepped, take-append-seam, length-snoc))
+      → (b : List ℕ) → T (spelled quote false b) → Reads (between quote b rest) rest (state before marks) (state (make b ∷ st) marks) at
+  read-quoted quote item make before lexed stepped b t =
+      read-item quote (b ++ (quote ∷ [])) 1 (sym (append-assoc b (quote ∷ []) rest))
+      (rw (lexed, quoted-spelled quote item b rest t, stepped, take-append-seam, length-snoc))
 
   read-atom : (b : List ℕ) → T (spelled (code "'") false b) → Reads (between (code "'") b rest) rest (state st marks) (state (T.atom b ∷ st) marks) at
   unfolding stepping
-  read-atom = read-marked (code "'") atomItem T.atom st (λ r. refl) (λ k r. refl)
+  read-atom = read-quoted (code "'") atomItem T.atom st (λ r. refl) (λ k r. refl)
 
   read-string : (b : List ℕ) → T (spelled (code "\"") false b) → Reads (between (code "\"") b rest) rest (state st marks) (state (T.string b ∷ st) marks) at
   unfolding stepping
-  read-string = read-marked (code "\"") stringItem T.string st (λ r. refl) (λ k r. refl)
+  read-string = read-quoted (code "\"") stringItem T.string st (λ r. refl) (λ k r. refl)
 
   read-tag : (t : Term) → base marks ≤ length st → (b : List ℕ) → T (spelled (code "`") false b)
       → Reads (between (code "`") b rest) rest (state (t ∷ st) marks) (state (T.tag b t ∷ st) marks) at
   unfolding stepping
-  read-tag t h = read-marked (code "`") tagItem (λ b. T.tag b t) (t ∷ st) (λ r. refl) (λ k r. pop-ok termValues at marks t st _ h)
+  read-tag t h = read-quoted (code "`") tagItem (λ b. T.tag b t) (t ∷ st) (λ r. refl) (λ k r. pop-ok termValues at marks t st _ h)
 
   -- after the count, a binary's bytes between two `~`
   read-bytes : (b : List ℕ) → base marks ≤ length st
@@ -298,7 +298,7 @@ plain-injective t u s s′ e =
 
 -- the same under limits: that term, with all of the text consumed, or no room
 pub data ReadsBack (t : Term) : Outcome (Result termValues) → Type 0 where
-  whole : (rows : ℕ) → ReadsBack t (accepted (length (plain t)) (record { rows = rows; root = t; store = tt }))
+  whole : (rows : ℕ) → ReadsBack t (accepted (length (plain t)) (record { used = rows; root = t; memory = tt }))
   noRoom : (n p : ℕ) → NoRoom n → ReadsBack t (refused n p)
 
 pub read-back-limits : (lim : Limits) (t : Term) → T (soundTerm t) → ReadsBack t (run termValues lim (plain t))
@@ -311,5 +311,5 @@ read-back-limits lim t s = reads (under-limits termValues lim (plain t)) (read-b
     reads (accepts k res) e =
         let here : k ≡ length (plain t) = cc in
         let root : res .root ≡ t = cc in
-        rw here (subst (λ (u : Term). ReadsBack t (accepted (length (plain t)) (record { rows = res .rows; root = u; store = tt }))) (sym root) (whole (res .rows)))
+        rw here (subst (λ (u : Term). ReadsBack t (accepted (length (plain t)) (record { used = res .used; root = u; memory = tt }))) (sym root) (whole (res .used)))
     reads (short n p h) e = noRoom n p h

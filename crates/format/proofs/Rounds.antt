@@ -33,7 +33,7 @@ unfolding message rounds bytesOf
 rounds-length = refl
 
 -- all 126 bytes are consumed, 61 rows are made, and the root is the last of them
-pub rounds-rows : (store : List Row) × (run rowValues roomy (message 20) ≡ accepted 126 (record { rows = 61; root = 60; store = store }))
+pub rounds-rows : (rows : List Row) × (run rowValues roomy (message 20) ≡ accepted 126 (record { used = 61; root = 60; memory = rows }))
 unfolding machine message rounds roomy
 rounds-rows = (_, refl)
 

@@ -1,4 +1,4 @@
--- Theorem 6, first half: rows used never exceed twice the bytes consumed. By the same walk: the machine gives no number but its own.
+-- Theorem 6, first half: rows used never exceed twice the bytes consumed. By the same walk, a refusal's number is from 3 to 17.
 use Prim.Native.Nat.{ℕ, _+_, _*_, _≤_}
 use mathlib.Core.Path.{_≡_, subst}
 use mathlib.Core.List.{List, _∷_}
@@ -16,7 +16,7 @@ module _ (𝒱 : Values) (lim : Limits) where
   Few at s used m = used + length (m .stack) ≤ 2 * at
 
   abbrev FewRows : ℕ → Result 𝒱 → Type 0
-  FewRows consumed res = res .rows ≤ 2 * consumed
+  FewRows consumed res = res .used ≤ 2 * consumed
 
   few-keeps : (at c : ℕ) (r : List ℕ) (used : ℕ) (m : Machine 𝒱) → Few at (c ∷ r) used m → (s : Step 𝒱) → StepAdds 𝒱 m s → Mv.Next 𝒱 lim Few FewRows at r used m s
   few-keeps at c r used m h (refuse n p) a = a
@@ -27,9 +27,9 @@ module _ (𝒱 : Values) (lim : Limits) where
   unfolding M.start
   few message = holds 𝒱 lim Few FewRows (λ at c r used m h. omega arith) (λ at c r used m h s x. few-keeps at c r used m h s (adds 𝒱 s x)) message (omega arith)
 
-  pub few-rows : (message : List ℕ) (consumed : ℕ) (res : Result 𝒱) → run 𝒱 lim message ≡ accepted consumed res → res .rows ≤ 2 * consumed
+  pub few-rows : (message : List ℕ) (consumed : ℕ) (res : Result 𝒱) → run 𝒱 lim message ≡ accepted consumed res → res .used ≤ 2 * consumed
   few-rows message consumed res e = subst (Mv.AtEnd 𝒱 lim Few FewRows) e (few message)
 
-  -- the machine gives no number but its own
+  -- the machine refuses with no 0, 1 or 2
   pub machine-number : (message : List ℕ) (n p : ℕ) → run 𝒱 lim message ≡ refused n p → MachineNumber n
   machine-number message n p e = subst (Mv.AtEnd 𝒱 lim Few FewRows) e (few message)

@@ -175,14 +175,14 @@ module _ (message : List ℕ) where
 
   -- the two machines in step
   record Like (a : Machine rowValues) (b : Machine termValues) : Type 0 where
-    stacks : Stacks (a .store) (a .stack) (b .stack)
+    stacks : Stacks (a .memory) (a .stack) (b .stack)
     marks : a .marks ≡ b .marks
-    registers : (x : ℕ) → Options (a .store) (a .registers x) (b .registers x)
+    registers : (x : ℕ) → Options (a .memory) (a .registers x) (b .registers x)
 
   data Steps (a : Machine rowValues) : Step rowValues → Step termValues → Type 0 where
     refuses : (n p : ℕ) → Steps a (refuse n p) (refuse n p)
     goes : (k w : ℕ) {a′ : Machine rowValues} {b′ : Machine termValues} → Like a′ b′ → Steps a (go k w a′) (go k w b′)
-    finishes : {v : ℕ} {t : Term} → Stands (a .store) v t → Steps a (finish v) (finish t)
+    finishes : {v : ℕ} {t : Term} → Stands (a .memory) v t → Steps a (finish v) (finish t)
 
   conds : {a : Machine rowValues} (c : Bool) {x y : Step rowValues} {x′ y′ : Step termValues} → Steps a x x′ → (c ≡ false → Steps a y y′) → Steps a (cond c x y) (cond c x′ y′)
   conds true p q = p
@@ -192,27 +192,27 @@ module _ (message : List ℕ) where
   conds-at : {a : Machine rowValues} {c c′ : Bool} → c ≡ c′ → {x y : Step rowValues} {x′ y′ : Step termValues} → Steps a x x′ → Steps a y y′ → Steps a (cond c x y) (cond c′ x′ y′)
   conds-at {c = c} e p q = rw (← e) (conds c p (λ f. q))
 
-  pops : {a : Machine rowValues} (at : ℕ) {ds ds′ : List ℕ} → ds ≡ ds′ → {vs : List ℕ} {ts : List Term} → Stacks (a .store) vs ts
+  pops : {a : Machine rowValues} (at : ℕ) {ds ds′ : List ℕ} → ds ≡ ds′ → {vs : List ℕ} {ts : List Term} → Stacks (a .memory) vs ts
       → {next : ℕ → List ℕ → Step rowValues} {next′ : Term → List Term → Step termValues}
-      → ((v : ℕ) (t : Term) (st : List ℕ) (st′ : List Term) → Stands (a .store) v t → Stacks (a .store) st st′ → Steps a (next v st) (next′ t st′))
+      → ((v : ℕ) (t : Term) (st : List ℕ) (st′ : List Term) → Stands (a .memory) v t → Stacks (a .memory) st st′ → Steps a (next v st) (next′ t st′))
       → Steps a (M.pop rowValues at ds vs next) (M.pop termValues at ds′ ts next′)
   unfolding M.pop
   pops at e empty f = refuses 6 at
   pops at e (_on_ {v} {t} {vs} {ts} s st) f = conds-at (ap₂ ltb (stacks-length st) (ap base e)) (refuses 6 at) (f v t vs ts s st)
 
   module _ (at : ℕ) (r : List ℕ) (here : drop (suc at) message ≡ r) {a : Machine rowValues} {b : Machine termValues} (l : Like a b) where
-    fresh-like : {x : Shape ℕ} {y : Shape Term} → Shapes (a .store) x y → {st : List ℕ} {st′ : List Term} → Stacks (a .store) st st′ → {ds ds′ : List ℕ} → ds ≡ ds′
+    fresh-like : {x : Shape ℕ} {y : Shape Term} → Shapes (a .memory) x y → {st : List ℕ} {st′ : List Term} → Stacks (a .memory) st st′ → {ds ds′ : List ℕ} → ds ≡ ds′
         → Like (M.fresh rowValues at x st ds a) (M.fresh termValues at y st′ ds′ b)
     unfolding M.fresh
     fresh-like sh st e =
-        let p = made-shape (a .store) sh in
+        let p = made-shape (a .memory) sh in
         record { stacks = (p .stands) on (stacks-grow (p .grows) st); marks = e; registers = λ x. options-grow (p .grows) (l .registers x) }
 
     -- the bytes of the message at the new span
     span : (n : ℕ) → n ≤ length r → spanOf message (suc at) (length (take n r)) ≡ take n r
     span n h = rw (length-take-le n r h, here)
 
-    binaries-take : {st : List ℕ} {st′ : List Term} → Stacks (a .store) st st′ → (o : Option ℤ) → Steps a (M.takeBinary rowValues at r a st o) (M.takeBinary termValues at r b st′ o)
+    binaries-take : {st : List ℕ} {st′ : List Term} → Stacks (a .memory) st st′ → (o : Option ℤ) → Steps a (M.takeBinary rowValues at r a st o) (M.takeBinary termValues at r b st′ o)
     unfolding M.takeBinary
     binaries-take st none = refuses 7 at
     binaries-take st (some (negsuc n)) = refuses 8 at
@@ -233,12 +233,12 @@ module _ (message : List ℕ) where
     closes-at : {ds ds′ : List ℕ} → ds ≡ ds′ → Steps a (M.closeTuple rowValues at a ds) (M.closeTuple termValues at b ds′)
     closes-at {ds} e = rw (← e) (closes ds)
 
-    pushes : {o : Option ℕ} {p : Option Term} → Options (a .store) o p → Steps a (M.pushRegister rowValues at a o) (M.pushRegister termValues at b p)
-    unfolding M.pushRegister M.onStack
+    pushes : {o : Option ℕ} {p : Option Term} → Options (a .memory) o p → Steps a (M.pushRegister rowValues at a o) (M.pushRegister termValues at b p)
+    unfolding M.pushRegister
     pushes nones = refuses 9 at
     pushes (somes s) = goes 0 0 (record { stacks = s on (l .stacks); marks = l .marks; registers = l .registers })
 
-    onlys : {st : List ℕ} {st′ : List Term} → Stacks (a .store) st st′ → Steps a (M.onlyValue rowValues at st) (M.onlyValue termValues at st′)
+    onlys : {st : List ℕ} {st′ : List Term} → Stacks (a .memory) st st′ → Steps a (M.onlyValue rowValues at st) (M.onlyValue termValues at st′)
     unfolding M.onlyValue
     onlys empty = refuses 11 at
     onlys (s on empty) = finishes s
@@ -252,7 +252,7 @@ module _ (message : List ℕ) where
     ends-at : {ds ds′ : List ℕ} → ds ≡ ds′ → Steps a (M.endMessage rowValues at a ds) (M.endMessage termValues at b ds′)
     ends-at {ds} e = rw (← e) (ends ds)
 
-    sets : (x : ℕ) {v : ℕ} {t : Term} → Stands (a .store) v t → (y : ℕ) → Options (a .store) (M.setRegister rowValues x v (a .registers) y) (M.setRegister termValues x t (b .registers) y)
+    sets : (x : ℕ) {v : ℕ} {t : Term} → Stands (a .memory) v t → (y : ℕ) → Options (a .memory) (M.setRegister rowValues x v (a .registers) y) (M.setRegister termValues x t (b .registers) y)
     unfolding M.setRegister
     sets x s y = options-cond (eqb y x) (somes s) (l .registers y)
 
@@ -290,18 +290,18 @@ module _ (message : List ℕ) where
   -- what the machine at rows says, with the root's term for the root
   unfoldable pub inTerms : Outcome (Result rowValues) → Outcome (Result termValues)
   inTerms (refused n p) = refused n p
-  inTerms (accepted k res) = accepted k (record { rows = res .rows; root = termAt message (res .store) (res .root); store = tt })
+  inTerms (accepted k res) = accepted k (record { used = res .used; root = termAt message (res .memory) (res .root); memory = tt })
 
   follows : {a : Machine rowValues} {x : Step rowValues} {y : Step termValues} → Steps a x y
       → (f : ℕ → ℕ → Machine rowValues → Outcome (Result rowValues)) (g : ℕ → ℕ → Machine termValues → Outcome (Result termValues))
       → ((k w : ℕ) (a′ : Machine rowValues) (b′ : Machine termValues) → Like a′ b′ → inTerms (f k w a′) ≡ g k w b′)
       → (at used : ℕ)
-      → inTerms (M.follow rowValues x f (λ v. accepted at (record { rows = used; root = v; store = a .store })))
-      ≡ M.follow termValues y g (λ v. accepted at (record { rows = used; root = v; store = tt }))
+      → inTerms (M.follow rowValues x f (λ v. accepted at (record { used = used; root = v; memory = a .memory })))
+      ≡ M.follow termValues y g (λ v. accepted at (record { used = used; root = v; memory = tt }))
   unfolding M.follow inTerms
   follows (refuses n p) f g h at used = refl
   follows (goes k w l) f g h at used = h k w _ _ l
-  follows (finishes s) f g h at used = ap (λ (t : Term). accepted at (record { rows = used; root = t; store = tt })) (s .is)
+  follows (finishes s) f g h at used = ap (λ (t : Term). accepted at (record { used = used; root = t; memory = tt })) (s .is)
 
   runs : (lim : Limits) (s : List ℕ) (skip at used : ℕ) → drop at message ≡ s → {a : Machine rowValues} {b : Machine termValues} → Like a b
       → inTerms (M.runFrom rowValues lim s skip at used a) ≡ M.runFrom termValues lim s skip at used b

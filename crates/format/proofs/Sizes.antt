@@ -125,8 +125,8 @@ unfolding decimalOn
 decimal-onto (pos n) a b = natural-onto n a b
 decimal-onto (negsuc n) a b = ap (λ (l : List ℕ). code "-" ∷ l) (natural-onto (suc n) a b)
 
-between-onto : (mark : ℕ) (x a b : List ℕ) → between mark x (a ++ b) ≡ between mark x a ++ b
-between-onto mark x a b = ap (λ (l : List ℕ). mark ∷ l) (sym (append-assoc x (mark ∷ a) b))
+between-onto : (quote : ℕ) (x a b : List ℕ) → between quote x (a ++ b) ≡ between quote x a ++ b
+between-onto quote x a b = ap (λ (l : List ℕ). quote ∷ l) (sym (append-assoc x (quote ∷ a) b))
 
 -- what follows a text is no part of it
 mutual

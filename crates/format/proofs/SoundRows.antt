@@ -15,7 +15,7 @@ use Rattle.format.specs.Machine as M
 use Rattle.format.specs.Machine.{Machine, Shape, Limits, Step, Result, accepted, run}
 use Rattle.format.proofs.Tests.{left-of, right-of, both}
 use Rattle.format.proofs.Lists.{drop-next}
-use Rattle.format.proofs.Items.{Marked}
+use Rattle.format.proofs.Items.{Quoted}
 use Rattle.format.proofs.Moves as Mv
 use Rattle.format.proofs.Moves.{Move, Making, Popped, holds}
 
@@ -105,32 +105,32 @@ module _ (message : List ℕ) where
   -- the machine before the bytes s, with so many rows used
   record Kept (at : ℕ) (s : List ℕ) (used : ℕ) (m : Machine rowValues) : Type 0 where
     here : drop at message ≡ s
-    sound : T (soundRows message (m .store))
-    count : length (m .store) ≡ used
-    stack : Below (length (m .store)) (m .stack)
-    registers : (x : ℕ) → BelowIf (length (m .store)) (m .registers x)
+    sound : T (soundRows message (m .memory))
+    count : length (m .memory) ≡ used
+    stack : Below (length (m .memory)) (m .stack)
+    registers : (x : ℕ) → BelowIf (length (m .memory)) (m .registers x)
 
   pub record Accepted (consumed : ℕ) (res : Result rowValues) : Type 0 where
-    pub sound : T (soundRows message (res .store))
-    pub count : length (res .store) ≡ res .rows
-    pub root : res .root < res .rows
+    pub sound : T (soundRows message (res .memory))
+    pub count : length (res .memory) ≡ res .used
+    pub root : res .root < res .used
 
   pass : (at c : ℕ) (r : List ℕ) (used : ℕ) (m : Machine rowValues) → Kept at (c ∷ r) used m → Kept (suc at) r used m
   pass at c r used m k = record { here = drop-next message at (k .here); sound = k .sound; count = k .count; stack = k .stack; registers = k .registers }
 
   module _ (at c : ℕ) (r : List ℕ) (used : ℕ) (m : Machine rowValues) (k : Kept at (c ∷ r) used m) where
     -- w rows more and a value for the last of them
-    fresh-kept : (w : ℕ) (shape : Shape ℕ) (st ds : List ℕ) → Below (length (m .store)) st → Grown (m .store) w (makeRows shape (m .store))
+    fresh-kept : (w : ℕ) (shape : Shape ℕ) (st ds : List ℕ) → Below (length (m .memory)) st → Grown (m .memory) w (makeRows shape (m .memory))
         → Kept (suc at) r (used + w) (M.fresh rowValues at shape st ds m)
     unfolding M.fresh
     fresh-kept w shape st ds h g =
-        let more : length (m .store) ≤ length (makeRows shape (m .store) .0) = omega (arith, g .longer) in
+        let more : length (m .memory) ≤ length (makeRows shape (m .memory) .0) = omega (arith, g .longer) in
         record {
           here = drop-next message at (k .here);
           sound = g .sound;
           count = omega (arith, g .longer, k .count);
-          stack = (g .inside, below-more (length (m .store)) (length (makeRows shape (m .store) .0)) more st h);
-          registers = λ x. belowIf-more (length (m .store)) (length (makeRows shape (m .store) .0)) more (m .registers x) (k .registers x);
+          stack = (g .inside, below-more (length (m .memory)) (length (makeRows shape (m .memory) .0)) more st h);
+          registers = λ x. belowIf-more (length (m .memory)) (length (makeRows shape (m .memory) .0)) more (m .registers x) (k .registers x);
         }
 
     -- a span that starts after the byte at `at`
@@ -141,24 +141,24 @@ module _ (message : List ℕ) where
         let e′ : suc (length r) ≡ length message - at = ap length (sym (k .here)) ∙ length-drop at message in
         rw (length-take-le n r h) (le→leb (suc at + n) (length message) (omega arith))
 
-    span-spelled : (mark n : ℕ) → Marked mark r n → T (spelledIn message mark (suc at) (length (take n r)))
+    span-spelled : (quote n : ℕ) → Quoted quote r n → T (spelledIn message quote (suc at) (length (take n r)))
     unfolding spelledIn
-    span-spelled mark n h =
+    span-spelled quote n h =
         let l : n ≤ length r = omega (arith, h .inside) in
         both (inSlice message (suc at) (length (take n r))) _ (span-in n l) (rw (length-take-le n r l, drop-next message at (k .here)) (h .spells))
 
     -- a popped value and the stack under it
-    popped : {stack : List ℕ} {v : ℕ} {st : List ℕ} → Below (length (m .store)) stack → Popped rowValues at r m stack v st → Below (length (m .store)) (v ∷ st)
-    popped h p = subst (Below (length (m .store))) (p .splits) h
+    popped : {stack : List ℕ} {v : ℕ} {st : List ℕ} → Below (length (m .memory)) stack → Popped rowValues at r m stack v st → Below (length (m .memory)) (v ∷ st)
+    popped h p = subst (Below (length (m .memory))) (p .splits) h
 
-    earlier : (v : ℕ) → v < length (m .store) → T (ltb v (length (m .store)))
-    earlier v h = lt→ltb v (length (m .store)) h
+    earlier : (v : ℕ) → v < length (m .memory) → T (ltb v (length (m .memory)))
+    earlier v h = lt→ltb v (length (m .memory)) h
 
-    one-row : (x : Row) → T (soundRow message (length (m .store)) x) → T (soundRest (x .kind) (rowAt (m .store) (x .second) .kind)) → Grown (m .store) 1 (add (m .store) x)
-    one-row x h g = grown-one (m .store) x (k .sound) (both (soundRow message (length (m .store)) x) _ h g)
+    one-row : (x : Row) → T (soundRow message (length (m .memory)) x) → T (soundRest (x .kind) (rowAt (m .memory) (x .second) .kind)) → Grown (m .memory) 1 (add (m .memory) x)
+    one-row x h g = grown-one (m .memory) x (k .sound) (both (soundRow message (length (m .memory)) x) _ h g)
 
     -- the row that a shape makes is sound
-    made : {shape : Shape ℕ} {st : List ℕ} → Making rowValues at r m shape st → Below (length (m .store)) st × Grown (m .store) 1 (makeRows shape (m .store))
+    made : {shape : Shape ℕ} {st : List ℕ} → Making rowValues at r m shape st → Below (length (m .memory)) st × Grown (m .memory) 1 (makeRows shape (m .memory))
     unfolding makeRows soundRow soundRest integerRow spanRow nilRow consRow tagRow
     made (Mv.integers z h) = (k .stack, one-row _ tt tt)
     made (Mv.atoms n h) = (k .stack, one-row _ (span-spelled (code "'") n h) tt)
@@ -168,13 +168,13 @@ module _ (message : List ℕ) where
     made (Mv.conses v l p q t) =
         let a = popped (k .stack) p in
         let b = popped (a .1) q in
-        (b .1, one-row (consRow v l) (both (ltb v (length (m .store))) _ (earlier v (a .0)) (earlier l (b .0))) (subst T (sym t) tt))
+        (b .1, one-row (consRow v l) (both (ltb v (length (m .memory))) _ (earlier v (a .0)) (earlier l (b .0))) (subst T (sym t) tt))
     made (Mv.tags n v p h) =
         let a = popped (k .stack) p in
         (a .1, one-row _ (both (spelledIn message (code "`") (suc at) (length (take n r))) _ (span-spelled (code "`") n h) (earlier v (a .0))) tt)
 
     -- the same rows, no row more
-    still : {m′ : Machine rowValues} → m′ .store ≡ m .store → Below (length (m .store)) (m′ .stack) → ((x : ℕ) → BelowIf (length (m .store)) (m′ .registers x)) → Kept (suc at) r (used + 0) m′
+    still : {m′ : Machine rowValues} → m′ .memory ≡ m .memory → Below (length (m .memory)) (m′ .stack) → ((x : ℕ) → BelowIf (length (m .memory)) (m′ .registers x)) → Kept (suc at) r (used + 0) m′
     still {m′} e h g = record {
       here = drop-next message at (k .here);
       sound = rw e (k .sound);
@@ -183,16 +183,16 @@ module _ (message : List ℕ) where
       registers = rw e g;
     }
 
-    set-kept : (x v : ℕ) → v < length (m .store) → (y : ℕ) → BelowIf (length (m .store)) (M.setRegister rowValues x v (m .registers) y)
+    set-kept : (x v : ℕ) → v < length (m .memory) → (y : ℕ) → BelowIf (length (m .memory)) (M.setRegister rowValues x v (m .registers) y)
     unfolding M.setRegister
     set-kept x v h y = cases (eqb y x)
       where
-        cases : (q : Bool) → BelowIf (length (m .store)) (cond q (some v) (m .registers y))
+        cases : (q : Bool) → BelowIf (length (m .memory)) (cond q (some v) (m .registers y))
         cases true = h
         cases false = k .registers y
 
     keeps : (lim : Limits) (s : Step rowValues) → Move rowValues at r m s → Mv.Next rowValues lim Kept Accepted at r used m s
-    unfolding makeRows M.onStack
+    unfolding makeRows
     keeps lim s (Mv.stops n p h) = h
     keeps lim s (Mv.rests j) = still refl (k .stack) (k .registers)
     keeps lim s (Mv.makes j {shape} {st} x) = fresh-kept 1 shape st (m .marks) (made x .0) (made x .1)
@@ -200,14 +200,14 @@ module _ (message : List ℕ) where
     keeps lim s (Mv.tuples d j ds e l) =
         let vs : List ℕ = reverse (take j (m .stack)) in
         let n : length vs ≡ j = length-reverse (take j (m .stack)) ∙ length-take-le j (m .stack) (omega arith) in
-        let b : Below (length (m .store)) vs = below-reverse (length (m .store)) (take j (m .stack)) [] (below-take (length (m .store)) j (m .stack) (k .stack)) tt in
-        fresh-kept (suc j) (M.tuple vs) (drop j (m .stack)) ds (below-drop (length (m .store)) j (m .stack) (k .stack)) (rw n at (grown-tuple (m .store) (k .sound) vs b .grown))
+        let b : Below (length (m .memory)) vs = below-reverse (length (m .memory)) (take j (m .stack)) [] (below-take (length (m .memory)) j (m .stack) (k .stack)) tt in
+        fresh-kept (suc j) (M.tuple vs) (drop j (m .stack)) ds (below-drop (length (m .memory)) j (m .stack) (k .stack)) (rw n at (grown-tuple (m .memory) (k .sound) vs b .grown))
     keeps lim s (Mv.stores x v p) =
         let a = popped (k .stack) p in
         still refl (a .1) (set-kept x v (a .0))
-    keeps lim s (Mv.pushes x v e) = still refl (subst (BelowIf (length (m .store))) e (k .registers x), k .stack) (k .registers)
+    keeps lim s (Mv.pushes x v e) = still refl (subst (BelowIf (length (m .memory))) e (k .registers x), k .stack) (k .registers)
     keeps lim s (Mv.ends v e) =
-        let a : Below (length (m .store)) (v ∷ []) = subst (Below (length (m .store))) e (k .stack) in
+        let a : Below (length (m .memory)) (v ∷ []) = subst (Below (length (m .memory))) e (k .stack) in
         record { sound = k .sound; count = k .count; root = omega (arith, a .0, k .count) }
 
   start-kept : Kept 0 message 0 (M.start rowValues)

@@ -67,9 +67,9 @@ kind-sound true b b′ t t′ h f g = f h
 kind-sound false b b′ t t′ h f g = g h
 
 module _ (message : List ℕ) (short : length message < 2 ^ 63) where
-  spelled-of : (mark a b : ℕ) → T (spelledIn message mark a b) → T (spelled mark false (spanOf message a b))
+  spelled-of : (quote a b : ℕ) → T (spelledIn message quote a b) → T (spelled quote false (spanOf message a b))
   unfolding spelledIn
-  spelled-of mark a b h = right-of (inSlice message a b) (spelled mark false (spanOf message a b)) h
+  spelled-of quote a b h = right-of (inSlice message a b) (spelled quote false (spanOf message a b)) h
 
   span-short : (a b : ℕ) → T (inSlice message a b) → T (ltb (length (spanOf message a b)) (2 ^ 63))
   unfolding inSlice

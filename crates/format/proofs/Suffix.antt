@@ -1,4 +1,4 @@
--- Theorem 5: no answer but 3 changes when bytes are appended to the message; bytes after `$` and old tables change nothing of an accepted one.
+-- Theorem 5: no answer but 3 changes when bytes are appended to the message; so bytes after `$` change nothing of an accepted one.
 use Prim.Native.Nat.{ℕ, zero, suc, _+_, _*_, _-_, _≤_, _<_}
 use Prim.Native.Char.{code}
 use mathlib.Core.Path.{_≡_, refl, sym, _∙_, subst}
@@ -10,16 +10,13 @@ use lib.IntN.{ℤ, pos, negsuc, negℤ}
 use lib.ListN.{length, take, getD, length-append, List·getD-append}
 use lib.Seq.{take-append-le}
 use lib.Dec.{eqb, ltb, leb}
-use borrow.Author.Tests.{leb-true, leb-false, lt-leb, le-ltb}
+use borrow.Author.Tests.{leb-true, leb-false, lt-leb}
 use Rattle.format.specs.Byte as B
 use Rattle.format.specs.Byte.{Class, classOf, hasClass}
 use Rattle.format.specs.Lex as L
-use Rattle.format.specs.Lex.{Item, Scan, Digits, inRange, lex, scan, digits, integerOf, marked, markedItem, negative, store, itemOf}
+use Rattle.format.specs.Lex.{Item, Scan, Digits, inRange, lex, scan, digits, integerOf, quoted, quotedItem, negative, store, itemOf}
 use Rattle.format.specs.Machine as M
 use Rattle.format.specs.Machine.{Values, Machine, Limits, Step, Outcome, Result, refuse, go, finish, refused, accepted, run, runFree}
-use Rattle.format.specs.Bound.{messageBound, registerWords}
-use Rattle.format.specs.Rows.{Row, rowValues, rowRoom}
-use Rattle.format.specs.Answer.{Tables, overBound, zeroed, limitsOf, rowsIn, cleared, decodeRefusal, decodeResult, decodeAnswer}
 use Rattle.format.proofs.Items.{ItemOk, lex-ok}
 
 -- what comes of x and of x ++ z: the same; or of x `end`, which says that x ends too early, and of x ++ z a refusal or what reaches past x
@@ -70,33 +67,33 @@ FarScan n Scan.ended = Unit {0}
 FarScan n (L.strayAt k) = Unit {0}
 FarScan n (L.closedAt k) = n ≤ k
 
-scan-far : (n mark : ℕ) (escaped : Bool) (j : ℕ) (r : List ℕ) → n ≤ j → FarScan n (scan mark escaped j r)
+scan-far : (n quote : ℕ) (escaped : Bool) (j : ℕ) (r : List ℕ) → n ≤ j → FarScan n (scan quote escaped j r)
 unfolding scan
-scan-far n mark escaped j [] l = tt
-scan-far n mark true j (c ∷ r) l = cases (eqb c (code "\\") || eqb c mark) refl (scan-far n mark false (suc j) r (omega arith))
+scan-far n quote escaped j [] l = tt
+scan-far n quote true j (c ∷ r) l = cases (eqb c (code "\\") || eqb c quote) refl (scan-far n quote false (suc j) r (omega arith))
   where
-    cases : (b : Bool) → (eqb c (code "\\") || eqb c mark) ≡ b → FarScan n (scan mark false (suc j) r) → FarScan n (scan mark true j (c ∷ r))
+    cases : (b : Bool) → (eqb c (code "\\") || eqb c quote) ≡ b → FarScan n (scan quote false (suc j) r) → FarScan n (scan quote true j (c ∷ r))
     cases true e h = rw (e, scan) h
     cases false e h = rw (e, scan) tt
-scan-far n mark false j (c ∷ r) l = cases (eqb c mark) refl (scan-far n mark (eqb c (code "\\")) (suc j) r (omega arith))
+scan-far n quote false j (c ∷ r) l = cases (eqb c quote) refl (scan-far n quote (eqb c (code "\\")) (suc j) r (omega arith))
   where
-    cases : (b : Bool) → eqb c mark ≡ b → FarScan n (scan mark (eqb c (code "\\")) (suc j) r) → FarScan n (scan mark false j (c ∷ r))
+    cases : (b : Bool) → eqb c quote ≡ b → FarScan n (scan quote (eqb c (code "\\")) (suc j) r) → FarScan n (scan quote false j (c ∷ r))
     cases true e h = rw (e, scan) l
     cases false e h = rw (e, scan) h
 
-scan-agree : (n mark : ℕ) (escaped : Bool) (j : ℕ) (x z : List ℕ) → n ≡ j + length x → Agree Scan.ended (FarScan n) (scan mark escaped j x) (scan mark escaped j (x ++ z))
+scan-agree : (n quote : ℕ) (escaped : Bool) (j : ℕ) (x z : List ℕ) → n ≡ j + length x → Agree Scan.ended (FarScan n) (scan quote escaped j x) (scan quote escaped j (x ++ z))
 unfolding scan
-scan-agree n mark escaped j [] z e = ends (scan-far n mark escaped j z (omega arith))
-scan-agree n mark true j (c ∷ x) z e = cases (eqb c (code "\\") || eqb c mark) refl (scan-agree n mark false (suc j) x z (omega arith))
+scan-agree n quote escaped j [] z e = ends (scan-far n quote escaped j z (omega arith))
+scan-agree n quote true j (c ∷ x) z e = cases (eqb c (code "\\") || eqb c quote) refl (scan-agree n quote false (suc j) x z (omega arith))
   where
-    cases : (b : Bool) → (eqb c (code "\\") || eqb c mark) ≡ b → Agree Scan.ended (FarScan n) (scan mark false (suc j) x) (scan mark false (suc j) (x ++ z))
-        → Agree Scan.ended (FarScan n) (scan mark true j (c ∷ x)) (scan mark true j (c ∷ x ++ z))
+    cases : (b : Bool) → (eqb c (code "\\") || eqb c quote) ≡ b → Agree Scan.ended (FarScan n) (scan quote false (suc j) x) (scan quote false (suc j) (x ++ z))
+        → Agree Scan.ended (FarScan n) (scan quote true j (c ∷ x)) (scan quote true j (c ∷ x ++ z))
     cases true e h = rw (e, scan) h
     cases false e h = rw (e, scan) same
-scan-agree n mark false j (c ∷ x) z e = cases (eqb c mark) refl (scan-agree n mark (eqb c (code "\\")) (suc j) x z (omega arith))
+scan-agree n quote false j (c ∷ x) z e = cases (eqb c quote) refl (scan-agree n quote (eqb c (code "\\")) (suc j) x z (omega arith))
   where
-    cases : (b : Bool) → eqb c mark ≡ b → Agree Scan.ended (FarScan n) (scan mark (eqb c (code "\\")) (suc j) x) (scan mark (eqb c (code "\\")) (suc j) (x ++ z))
-        → Agree Scan.ended (FarScan n) (scan mark false j (c ∷ x)) (scan mark false j (c ∷ x ++ z))
+    cases : (b : Bool) → eqb c quote ≡ b → Agree Scan.ended (FarScan n) (scan quote (eqb c (code "\\")) (suc j) x) (scan quote (eqb c (code "\\")) (suc j) (x ++ z))
+        → Agree Scan.ended (FarScan n) (scan quote false j (c ∷ x)) (scan quote false j (c ∷ x ++ z))
     cases true e h = rw (e, scan) same
     cases false e h = rw (e, scan) h
 
@@ -124,11 +121,11 @@ integer-agree : (n : ℕ) (sign : ℕ → ℤ) {d d′ : Digits} → Agree L.unf
 unfolding integerOf
 integer-agree n sign = agree-map (integerOf sign) (integer-far n sign)
 
-marked-agree : (mark : ℕ) (item : ℕ → Item) (x z : List ℕ) → ((k : ℕ) → length x ≤ k → FarItem (length x) (item k)) → Items (length x) (marked mark item x) (marked mark item (x ++ z))
-unfolding marked markedItem
-marked-agree mark item x z h = agree-map (markedItem item) far (scan-agree (length x) mark false 0 x z (omega arith))
+quoted-agree : (quote : ℕ) (item : ℕ → Item) (x z : List ℕ) → ((k : ℕ) → length x ≤ k → FarItem (length x) (item k)) → Items (length x) (quoted quote item x) (quoted quote item (x ++ z))
+unfolding quoted quotedItem
+quoted-agree quote item x z h = agree-map (quotedItem item) far (scan-agree (length x) quote false 0 x z (omega arith))
   where
-    far : (s : Scan) → FarScan (length x) s → FarItem (length x) (markedItem item s)
+    far : (s : Scan) → FarScan (length x) s → FarItem (length x) (quotedItem item s)
     far Scan.ended g = farCut
     far (L.strayAt k) g = farStray
     far (L.closedAt k) g = h k g
@@ -152,10 +149,10 @@ unfolding itemOf
 item-agree B.white c x z = same
 item-agree B.digit c x z = integer-agree (length x) (λ v. pos v) (digits-agree (length x) (c - code "0") 0 x z (omega arith))
 item-agree B.minus c x z = negative-agree x z
-item-agree B.atomMark c x z = marked-agree (code "'") L.atomItem x z (λ k h. farAtom h)
-item-agree B.stringMark c x z = marked-agree (code "\"") L.stringItem x z (λ k h. farString h)
-item-agree B.tagMark c x z = marked-agree (code "`") L.tagItem x z (λ k h. farTag h)
-item-agree B.commentMark c x z = marked-agree (code "%") L.commentItem x z (λ k h. farComment h)
+item-agree B.atomQuote c x z = quoted-agree (code "'") L.atomItem x z (λ k h. farAtom h)
+item-agree B.stringQuote c x z = quoted-agree (code "\"") L.stringItem x z (λ k h. farString h)
+item-agree B.tagQuote c x z = quoted-agree (code "`") L.tagItem x z (λ k h. farTag h)
+item-agree B.commentQuote c x z = quoted-agree (code "%") L.commentItem x z (λ k h. farComment h)
 item-agree B.leftBrace c x z = same
 item-agree B.rightBrace c x z = same
 item-agree B.tilde c x z = same
@@ -243,7 +240,7 @@ module _ (𝒱 : Values) where
     step-same (L.integerItem i k) h = same
     step-same L.openItem h = same
     step-same L.closeItem h = same
-    step-same L.tildeItem h = pop-agree (m .stack) _ _ (λ v st. binary-agree st (𝒱 .integerIn (m .store) v))
+    step-same L.tildeItem h = pop-agree (m .stack) _ _ (λ v st. binary-agree st (𝒱 .integerIn (m .memory) v))
     step-same L.hashItem h = same
     step-same L.ampersandItem h = same
     step-same L.endItem h = same
@@ -362,7 +359,7 @@ module _ (𝒱 : Values) where
     unfolding M.runFrom M.bounded
     limited = record {
       check = M.bounded 𝒱 lim;
-      result = λ used m v. record { rows = used; root = v; store = m .store };
+      result = λ used m v. record { used = used; root = v; memory = m .memory };
       from = M.runFrom 𝒱 lim;
       refuses = λ at used n p. refl;
       keeps = bounded-far;
@@ -379,38 +376,3 @@ module _ (𝒱 : Values) where
     pub rest-unread : (x y z : List ℕ) (r : Result 𝒱) → run 𝒱 lim (x ++ y) ≡ accepted (length x) r → run 𝒱 lim (x ++ z) ≡ accepted (length x) r
     unfolding M.run limited
     rest-unread x y z r e = appended x z (accepted (length x) r) (back r (runs-agree limited (length x) x y 0 0 0 (M.start 𝒱) (omega arith)) e) tt
-
--- the same of the whole answer, the tables at the end included
-pub answer-rest : (x y z : List ℕ) (t : Tables) (r : Result rowValues) → length (x ++ y) ≤ messageBound → length (x ++ z) ≤ messageBound
-    → run rowValues (limitsOf t) (x ++ y) ≡ accepted (length x) r → decodeAnswer (x ++ z) t ≡ decodeAnswer (x ++ y) t
-unfolding decodeAnswer overBound
-answer-rest x y z t r hy hz e =
-    rw (le-ltb messageBound (length (x ++ y)) hy, le-ltb messageBound (length (x ++ z)) hz, rest-unread rowValues (limitsOf t) x y z r e, e) refl
-
--- two lots of tables of the same lengths
-module _ (t t′ : Tables) (hr : length (t .rows) ≡ length (t′ .rows)) (hs : length (t .stack) ≡ length (t′ .stack)) (hm : length (t .marks) ≡ length (t′ .marks))
-    (hg : length (t .registers) ≡ length (t′ .registers)) where
-  old-limits : limitsOf t ≡ limitsOf t′
-  unfolding limitsOf rowRoom
-  old-limits = rw (hr, hs, hm) refl
-
-  old-cleared : (rows : List Row) → cleared t rows ≡ cleared t′ rows
-  unfolding cleared zeroed rowsIn
-  old-cleared rows = rw (hr, hs, hm, hg) refl
-
-  old-result : (o : Outcome (Result rowValues)) → decodeResult t o ≡ decodeResult t′ o
-  unfolding decodeResult
-  old-result (refused n p) = rw (old-cleared []) refl
-  old-result (accepted k r) = rw (old-cleared (r .store)) refl
-
--- old contents of the tables change nothing of an answer other than 1 and 2, so nothing of an accepted message; 1 and 2 leave the tables as lent
-pub answer-old : (message : List ℕ) (t t′ : Tables)
-    → length (t .rows) ≡ length (t′ .rows) → length (t .stack) ≡ length (t′ .stack) → length (t .marks) ≡ length (t′ .marks) → length (t .registers) ≡ length (t′ .registers)
-    → ¬ (decodeAnswer message t .number ≡ 1) → ¬ (decodeAnswer message t .number ≡ 2) → decodeAnswer message t ≡ decodeAnswer message t′
-unfolding decodeAnswer decodeRefusal
-answer-old message t t′ hr hs hm hg not1 not2 = cases (overBound message) (ltb (length (t .registers)) registerWords) refl refl
-  where
-    cases : (b c : Bool) → overBound message ≡ b → ltb (length (t .registers)) registerWords ≡ c → decodeAnswer message t ≡ decodeAnswer message t′
-    cases true c e f = absurd (not1 (rw e refl))
-    cases false true e f = absurd (not2 (rw (e, f) refl))
-    cases false false e f = rw (e, ← hg, f, old-limits t t′ hr hs hm hg) (old-result t t′ hr hs hm hg (run rowValues (limitsOf t′) message))

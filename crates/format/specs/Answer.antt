@@ -37,7 +37,7 @@ pub record Decoded : Type 0 where
   pub used : ℕ
   pub tables : Tables
 
--- each table has room for its lent length, and at most its bound
+-- rows: words divided by four; stack and marks: their lent length; each at most its bound
 unfoldable pub limitsOf : Tables → Limits
 limitsOf t = record { rows = rowRoom (t .rows); stack = min (length (t .stack)) stackBound; marks = min (length (t .marks)) markBound }
 
@@ -56,7 +56,7 @@ decodeRefusal number place t = record { number = number; place = place; root = 0
 -- what the machine says, and the tables that it leaves
 unfoldable pub decodeResult : Tables → M.Outcome (Result rowValues) → Decoded
 decodeResult t (refused number place) = decodeRefusal number place (cleared t [])
-decodeResult t (accepted consumed r) = record { number = 0; place = consumed; root = r .root; used = r .rows; tables = cleared t (r .store) }
+decodeResult t (accepted consumed r) = record { number = 0; place = consumed; root = r .root; used = r .used; tables = cleared t (r .memory) }
 
 -- decode: 1, 2, both of which touch nothing, then the machine at rows
 unfoldable pub decodeAnswer : List ℕ → Tables → Decoded
@@ -82,7 +82,7 @@ writeText text scratch output =
     cond (ltb (length output) (length text)) (writeRefusal 15 (zeroed scratch) output)
     (record { number = 0; bytes = length text; scratch = zeroed scratch; output = text ++ drop (length text) output })
 
--- write: 1, 2, 16, 15; the scratch is touched after all but 1 and 2
+-- write: 1, 2, 16, 15; the scratch is zero after all but 1 and 2
 unfoldable pub writeAnswer : List ℕ → List ℕ → ℕ → ℕ → List ℕ → List ℕ → Written
 writeAnswer message words used root scratch output =
     cond (overBound message) (writeRefusal 1 scratch output)
@@ -112,7 +112,7 @@ compareAnswer messageA wordsA usedA rootA messageB wordsB usedB rootB scratch =
 
 -- read_word: 1, 16, then 18, 19, 20; the row stands in the root's place, and nothing is lent for writing
 unfoldable pub wordAnswer : List ℕ → List ℕ → ℕ → ℕ → ℕ → Word
-wordAnswer message words used at k =
+wordAnswer message words used root k =
     cond (overBound message) (noWord 1)
-    (cond (not (soundTable message words used at)) (noWord 16)
-    (wordOfTerm (termAt message (rowsOf used words) at) k))
+    (cond (not (soundTable message words used root)) (noWord 16)
+    (wordOfTerm (termAt message (rowsOf used words) root) k))

@@ -39,9 +39,9 @@ lend rows stack marks = record {
 
 -- what the decoder's answer and the machine at terms say together
 unfoldable pub claimOf : Decoded → M.Outcome (Result termValues) → Claim
-claimOf d (refused n p) = cond (eqb (d .number) n && eqb (d .place) p) (refusal n p) disagree
+claimOf d (refused n p) = cond (eqb (d .number) n && eqb (d .place) p && eqb (d .root) 0 && eqb (d .used) 0) (refusal n p) disagree
 claimOf d (accepted k r) =
-    cond (eqb (d .number) 0 && eqb (d .place) k && eqb (d .used) (r .rows))
+    cond (eqb (d .number) 0 && eqb (d .place) k && eqb (d .used) (r .used))
     (accepts k (d .root) (rowsOf (d .used) (d .tables .rows)) (r .root) (plain (r .root)))
     disagree
 
@@ -64,9 +64,9 @@ abbrev pub natural : ℕ → Term
 natural n = T.int (pos n)
 
 -- the lines marked P, in 01's order
-unfoldable pub marked : List Line
+unfoldable pub markedP : List Line
 unfolding on bytesOf
-marked =
+markedP =
     on "" (refusal 3 0)
     ∷ on "$" (refusal 11 0)
     ∷ on "'a'$" (accepts 4 0 (row 2 1 1 0 ∷ []) (T.atom (bytesOf "a")) (bytesOf "'a'$"))
@@ -86,7 +86,7 @@ marked =
     (let pair = T.tuple (natural 1 then natural 1 then T.none) in T.tuple (pair then pair then T.none)) (bytesOf "{{1 1 }{1 1 }}$"))
     ∷ []
 
--- refusals: each number, and in each item's order the earlier of two that both hold
+-- refusals: each number, where it stands, and in each item's order the earlier of two that both hold
 unfoldable pub refusals : List Line
 unfolding on
 refusals =
@@ -97,11 +97,13 @@ refusals =
     ∷ on "--1 $" (refusal 4 1)
     ∷ on "9223372036854775808" (refusal 3 19)
     ∷ on "-9223372036854775809 $" (refusal 5 0)
+    ∷ on "1 9223372036854775808 $" (refusal 5 2)
     ∷ line 0 0 0 "9223372036854775808 $" (refusal 5 0)
     ∷ line 0 0 0 "1 $" (refusal 12 0)
     ∷ line 1 0 0 "1 $" (refusal 13 0)
-    -- marked text: the first byte that cannot stand there is 4 at once, though the slice ends with no mark
+    -- quoted text: the first byte that cannot stand there is 4 at once, though the slice ends with no quote; 3 and 4 before 12, 12 before 13
     ∷ on "'a" (refusal 3 2)
+    ∷ on "1 'a" (refusal 3 4)
     ∷ on "\"\\" (refusal 3 2)
     ∷ on "'\\a" (refusal 4 2)
     ∷ on "\"\\'\"$" (refusal 4 2)
@@ -139,8 +141,9 @@ refusals =
     ∷ on "#`t`1 &$" (refusal 7 6)
     ∷ line 2 2 0 "1 2 &$" (refusal 7 4)
     ∷ line 2 2 0 "#1 &$" (refusal 12 3)
-    -- `}`: 10, 12, 13; 17 is never given
+    -- `}`: 10, 12, 13; no line gives 17
     ∷ on "}" (refusal 10 0)
+    ∷ on "1 }" (refusal 10 2)
     ∷ line 0 0 0 "}" (refusal 10 0)
     ∷ line 1 1 1 "1 {}$" (refusal 12 3)
     ∷ line 2 1 1 "1 {}$" (refusal 13 3)
@@ -162,10 +165,12 @@ refusals =
     ∷ line 0 0 0 "a$" (refusal 9 0)
     ∷ on "1 >ab$" (refusal 9 4)
     ∷ line 1 1 0 "1 >aaa$" (refusal 13 5)
-    -- `$`: 10, 11; and 3 before `$`
+    -- `$`: 10, 11; 3 where no `$` comes
     ∷ on "{$" (refusal 10 1)
     ∷ on "{1 $" (refusal 10 3)
+    ∷ on "1 >a$" (refusal 11 4)
     ∷ on " \t\n\r%a%" (refusal 3 7)
+    -- a byte with no meaning
     ∷ on "," (refusal 4 0)
     ∷ []
 
@@ -192,6 +197,7 @@ acceptances =
     -- a tag with no name; a tag over a tag
     ∷ on "1 ``$" (accepts 5 1 (row 1 0 1 0 ∷ row 9 3 0 0 ∷ []) (T.tag [] (natural 1)) (bytesOf "1 ``$"))
     ∷ on "1 `a``b`$" (accepts 9 2 (row 1 0 1 0 ∷ row 9 3 1 0 ∷ row 9 6 1 1 ∷ []) (T.tag (bytesOf "b") (T.tag (bytesOf "a") (natural 1))) (bytesOf "1 `a``b`$"))
+    -- a tuple in a tuple
     ∷ on "{1 {2 }}$"
     (accepts 9 6 (row 1 0 1 0 ∷ row 1 0 2 0 ∷ row 7 0 0 0 ∷ row 8 1 2 0 ∷ row 7 0 0 0 ∷ row 8 3 4 0 ∷ row 8 0 5 0 ∷ [])
     (T.tuple (natural 1 then T.tuple (natural 2 then T.none) then T.none)) (bytesOf "{1 {2 }}$"))

@@ -10,7 +10,7 @@ use lib.Dec.{eqb}
 
 -- the classes: one for white space, one for digits, one for each other special byte, one for all registers
 pub data Class : Type 0 where
-  white digit minus atomMark stringMark tagMark commentMark leftBrace rightBrace tilde hash ampersand dollar greater comma register : Class
+  white digit minus atomQuote stringQuote tagQuote commentQuote leftBrace rightBrace tilde hash ampersand dollar greater comma register : Class
 
 -- a byte and its class
 pub data Entry : Type 0 where
@@ -23,8 +23,8 @@ specials =
     (code " " is white) ∷ (code "\t" is white) ∷ (code "\n" is white) ∷ (code "\r" is white)
     ∷ (code "0" is digit) ∷ (code "1" is digit) ∷ (code "2" is digit) ∷ (code "3" is digit) ∷ (code "4" is digit)
     ∷ (code "5" is digit) ∷ (code "6" is digit) ∷ (code "7" is digit) ∷ (code "8" is digit) ∷ (code "9" is digit)
-    ∷ (code "-" is minus) ∷ (code "%" is commentMark) ∷ (code "\"" is stringMark) ∷ (code "~" is tilde)
-    ∷ (code "'" is atomMark) ∷ (code "`" is tagMark) ∷ (code "{" is leftBrace) ∷ (code "}" is rightBrace)
+    ∷ (code "-" is minus) ∷ (code "%" is commentQuote) ∷ (code "\"" is stringQuote) ∷ (code "~" is tilde)
+    ∷ (code "'" is atomQuote) ∷ (code "`" is tagQuote) ∷ (code "{" is leftBrace) ∷ (code "}" is rightBrace)
     ∷ (code "#" is hash) ∷ (code "&" is ampersand) ∷ (code "," is comma) ∷ (code "$" is dollar) ∷ (code ">" is greater) ∷ []
 
 -- the class that a list gives a byte: registers are named by any byte except those listed
@@ -41,10 +41,10 @@ abbrev pub classCode : Class → ℕ
 classCode white = 0
 classCode digit = 1
 classCode minus = 2
-classCode atomMark = 3
-classCode stringMark = 4
-classCode tagMark = 5
-classCode commentMark = 6
+classCode atomQuote = 3
+classCode stringQuote = 4
+classCode tagQuote = 5
+classCode commentQuote = 6
 classCode leftBrace = 7
 classCode rightBrace = 8
 classCode tilde = 9

@@ -19,10 +19,12 @@ pub data Case : Type 0 where
   decodes : String → ℕ → ℕ → ℕ → List ℕ → Case
   -- a message, rows, rows claimed and root: sound or not
   table : String → List Row → ℕ → ℕ → Bool → Case
-  -- a message and a root, written from the table that decoding leaves: scratch words, output before; number, bytes, output after
-  writes : String → ℕ → ℕ → String → ℕ → ℕ → List ℕ → Case
-  -- two messages, each with a root, compared on the tables that decoding leaves: scratch words; number and equal
-  compares : String → ℕ → String → ℕ → ℕ → ℕ → ℕ → Case
+  -- a message and a root, written from the table that decoding leaves: scratch words, each holding 9, and the output before;
+  -- number, bytes, and the scratch and the output at the end
+  writes : String → ℕ → ℕ → String → ℕ → ℕ → List ℕ → List ℕ → Case
+  -- two messages, each with a root, compared on the tables that decoding leaves: scratch words, each holding 9;
+  -- number, equal, and the scratch at the end
+  compares : String → ℕ → String → ℕ → ℕ → ℕ → ℕ → List ℕ → Case
   -- a message's row and k: number and word
   word : String → ℕ → ℕ → ℕ → ℤ → Case
 
@@ -37,28 +39,28 @@ unfoldable pub decoded : List ℕ → Decoded
 decoded message = decodeAnswer message (lend 16 8 4)
 
 unfoldable pub writtenCase : String → ℕ → ℕ → String → Written → Case
-writtenCase message root scratch output w = writes message root scratch output (w .number) (w .bytes) (w .output)
+writtenCase message root scratch output w = writes message root scratch output (w .number) (w .bytes) (w .scratch) (w .output)
 
 unfoldable pub comparedCase : String → ℕ → String → ℕ → ℕ → Compared → Case
-comparedCase a rootA b rootB scratch c = compares a rootA b rootB scratch (c .number) (c .equal)
+comparedCase a rootA b rootB scratch c = compares a rootA b rootB scratch (c .number) (c .equal) (c .scratch)
 
 unfoldable pub wordCase : String → ℕ → ℕ → Word → Case
-wordCase message at k w = word message at k (w .number) (w .value)
+wordCase message root k w = word message root k (w .number) (w .value)
 
 -- a case with the answer that the definitions give
 unfoldable pub toldCase : Case → Case
 toldCase (decodes message registers number place words) = decodedCase message registers (decodeAnswer (bytesOf message) (small registers))
 toldCase (table message rows used root sound) = table message rows used root (soundTable (bytesOf message) (wordsOf rows) used root)
-toldCase (writes message root scratch output number bytes after) =
+toldCase (writes message root scratch output number bytes words after) =
     let d = decoded (bytesOf message) in
     writtenCase message root scratch output (writeAnswer (bytesOf message) (d .tables .rows) (d .used) root (replicate scratch 9) (bytesOf output))
-toldCase (compares a rootA b rootB scratch number equal) =
+toldCase (compares a rootA b rootB scratch number equal words) =
     let d = decoded (bytesOf a) in
     let e = decoded (bytesOf b) in
     comparedCase a rootA b rootB scratch (compareAnswer (bytesOf a) (d .tables .rows) (d .used) rootA (bytesOf b) (e .tables .rows) (e .used) rootB (replicate scratch 9))
-toldCase (word message at k number value) =
+toldCase (word message root k number value) =
     let d = decoded (bytesOf message) in
-    wordCase message at k (wordAnswer (bytesOf message) (d .tables .rows) (d .used) at k)
+    wordCase message root k (wordAnswer (bytesOf message) (d .tables .rows) (d .used) root k)
 
 unfoldable pub toldCases : List Case → List Case
 toldCases [] = []
@@ -105,7 +107,9 @@ soundness =
     ∷ table "abc" (row 4 1 3 0 ∷ []) 1 0 false
     ∷ table "abc" (row 4 4294967295 1 0 ∷ []) 1 0 false
     ∷ table "abc" (row 2 4 0 0 ∷ []) 1 0 false
-    -- escapes and closing marks, by the row's own mark; a binary has none
+    ∷ table "abc" (row 3 4 0 0 ∷ []) 1 0 false
+    ∷ table "abc" (row 5 0 0 0 ∷ row 9 4 0 0 ∷ []) 2 1 false
+    -- escapes and closing quotes, by the row's own quote; a binary has none
     ∷ table "\\'" (row 2 0 2 0 ∷ []) 1 0 true
     ∷ table "\\'" (row 2 0 1 0 ∷ []) 1 0 false
     ∷ table "\\'" (row 2 1 1 0 ∷ []) 1 0 false
@@ -113,6 +117,8 @@ soundness =
     ∷ table "\\'" (row 3 1 1 0 ∷ []) 1 0 true
     ∷ table "\"`" (row 3 0 1 0 ∷ []) 1 0 false
     ∷ table "\"`" (row 5 0 0 0 ∷ row 9 1 1 0 ∷ []) 2 1 false
+    ∷ table "\\`" (row 5 0 0 0 ∷ row 9 0 1 0 ∷ []) 2 1 false
+    ∷ table "\\`" (row 5 0 0 0 ∷ row 9 0 2 0 ∷ []) 2 1 true
     ∷ table "\\'" (row 4 0 1 0 ∷ []) 1 0 true
     -- a reference that is not earlier
     ∷ table "" (row 5 0 0 0 ∷ row 6 1 0 0 ∷ []) 2 1 false
@@ -131,31 +137,33 @@ soundness =
 unfoldable pub writing : List Case
 unfolding bytesOf
 writing =
-    writes "-0 $" 0 1 "....." 0 3 (bytesOf "0 $..")
-    ∷ writes "-0 $" 0 1 "..." 0 3 (bytesOf "0 $")
-    ∷ writes "-0 $" 0 1 ".." 15 0 (bytesOf "..")
-    ∷ writes "-0 $" 1 1 ".." 16 0 (bytesOf "..")
-    ∷ writes "-0 $" 1 0 ".." 2 0 (bytesOf "..")
-    ∷ writes "{1 `t`'a'}>a#a&$" 7 8 "................" 0 13 (bytesOf "#{1 `t`'a'}&$...")
-    ∷ writes "{1 `t`'a'}>a#a&$" 1 8 "................" 0 6 (bytesOf "1 `t`$..........")
+    writes "-0 $" 0 1 "....." 0 3 (replicate 1 0) (bytesOf "0 $..")
+    ∷ writes "-0 $" 0 1 "..." 0 3 (replicate 1 0) (bytesOf "0 $")
+    ∷ writes "-0 $" 0 1 ".." 15 0 (replicate 1 0) (bytesOf "..")
+    ∷ writes "-0 $" 1 1 ".." 16 0 (replicate 1 0) (bytesOf "..")
+    ∷ writes "-0 $" 1 0 ".." 2 0 (replicate 0 9) (bytesOf "..")
+    ∷ writes "-0 $" 0 3 "..." 0 3 (replicate 3 0) (bytesOf "0 $")
+    ∷ writes "{1 `t`'a'}>a#a&$" 7 7 "................" 2 0 (replicate 7 9) (bytesOf "................")
+    ∷ writes "{1 `t`'a'}>a#a&$" 7 8 "................" 0 13 (replicate 8 0) (bytesOf "#{1 `t`'a'}&$...")
+    ∷ writes "{1 `t`'a'}>a#a&$" 1 8 "................" 0 6 (replicate 8 0) (bytesOf "1 `t`$..........")
     ∷ []
 
 -- the comparison: 2, 16 in that order, equal and different
 unfoldable pub comparing : List Case
 comparing =
-    compares "-0 $" 0 "0 $" 0 2 0 1
-    ∷ compares "-0 $" 0 "0 $" 0 1 2 0
-    ∷ compares "-0 $" 1 "0 $" 0 2 16 0
-    ∷ compares "-0 $" 0 "0 $" 1 2 16 0
-    ∷ compares "-0 $" 1 "0 $" 1 1 2 0
-    ∷ compares "'a'$" 0 "\"a\"$" 0 2 0 0
-    ∷ compares "'a'$" 0 "'a' %same%$" 0 2 0 1
-    ∷ compares "{1 }$" 2 "#1 &$" 2 6 0 0
-    ∷ compares "1 >a{aa}$" 3 "{1 1 }$" 4 9 0 1
-    ∷ compares "1 >a{aa}$" 3 "{1 2 }$" 4 9 0 0
-    ∷ compares "1 >a{aa}$" 2 "{1 1 }$" 4 9 0 0
-    ∷ compares "1~a~$" 1 "\"a\"$" 0 3 0 0
-    ∷ compares "1 `a`$" 1 "1 `b`$" 1 4 0 0
+    compares "-0 $" 0 "0 $" 0 2 0 1 (replicate 2 0)
+    ∷ compares "-0 $" 0 "0 $" 0 1 2 0 (replicate 1 9)
+    ∷ compares "-0 $" 1 "0 $" 0 2 16 0 (replicate 2 0)
+    ∷ compares "-0 $" 0 "0 $" 1 2 16 0 (replicate 2 0)
+    ∷ compares "-0 $" 1 "0 $" 1 1 2 0 (replicate 1 9)
+    ∷ compares "'a'$" 0 "\"a\"$" 0 2 0 0 (replicate 2 0)
+    ∷ compares "'a'$" 0 "'a' %same%$" 0 2 0 1 (replicate 2 0)
+    ∷ compares "{1 }$" 2 "#1 &$" 2 6 0 0 (replicate 6 0)
+    ∷ compares "1 >a{aa}$" 3 "{1 1 }$" 4 9 0 1 (replicate 9 0)
+    ∷ compares "1 >a{aa}$" 3 "{1 2 }$" 4 9 0 0 (replicate 9 0)
+    ∷ compares "1 >a{aa}$" 2 "{1 1 }$" 4 9 0 0 (replicate 9 0)
+    ∷ compares "1~a~$" 1 "\"a\"$" 0 3 0 0 (replicate 3 0)
+    ∷ compares "1 `a`$" 1 "1 `b`$" 1 4 0 0 (replicate 4 0)
     ∷ []
 
 -- the word reader: 16, 18, 19, 20 in that order, and words of every width
@@ -187,6 +195,14 @@ reading =
     ∷ word "3~abc~`U16be`$" 2 0 18 (pos 0)
     ∷ word "2~ab~`u8``u8`$" 3 0 18 (pos 0)
     ∷ word "\"ab\"`u8`$" 1 0 18 (pos 0)
+    ∷ word "'ab'`u8`$" 1 0 18 (pos 0)
+    ∷ word "1 `u8`$" 1 0 18 (pos 0)
+    ∷ word "#`u8`$" 1 0 18 (pos 0)
+    ∷ word "{}`u8`$" 1 0 18 (pos 0)
+    ∷ word "\"ab\"$" 0 0 18 (pos 0)
+    ∷ word "'ab'$" 0 0 18 (pos 0)
+    ∷ word "#$" 0 0 18 (pos 0)
+    ∷ word "{}$" 0 0 18 (pos 0)
     -- 16: the row is not among those used
     ∷ word "2~ab~`u8`$" 3 0 16 (pos 0)
     ∷ []

@@ -10,7 +10,7 @@ use lib.Dec.{ltb, eqb}
 use Rattle.format.specs.Byte as B
 use Rattle.format.specs.Byte.{Class, classOf, hasClass}
 
--- an item; a number says how many of the bytes in r belong to it, for marked text without its closing mark
+-- an item; a number says how many of the bytes in r belong to it, for quoted text without its closing quote
 pub data Item : Type 0 where
   whiteItem : Item
   commentItem atomItem stringItem tagItem : ℕ → Item
@@ -23,26 +23,26 @@ pub data Item : Type 0 where
   stray : ℕ → Item
   tooLarge : Item
 
--- what a look for a closing mark finds: the slice's end, or, so many bytes on, a byte not allowed there or the mark
+-- what a look for a closing quote finds: the slice's end, or, so many bytes on, a byte not allowed there or the quote
 pub data Scan : Type 0 where
   ended : Scan
   strayAt closedAt : ℕ → Scan
 
--- a backslash must be followed by a backslash or by the mark; k bytes are passed, and `escaped` says that a backslash is the last
+-- a backslash must be followed by a backslash or by that quote; k bytes are passed, and `escaped` says that a backslash is the last
 unfoldable pub scan : ℕ → Bool → ℕ → List ℕ → Scan
-scan mark escaped k [] = ended
-scan mark true k (c ∷ r) = elim (eqb c (code "\\") || eqb c mark) [ true ↦ scan mark false (suc k) r | false ↦ strayAt k ]
-scan mark false k (c ∷ r) = elim (eqb c mark) [ true ↦ closedAt k | false ↦ scan mark (eqb c (code "\\")) (suc k) r ]
+scan quote escaped k [] = ended
+scan quote true k (c ∷ r) = elim (eqb c (code "\\") || eqb c quote) [ true ↦ scan quote false (suc k) r | false ↦ strayAt k ]
+scan quote false k (c ∷ r) = elim (eqb c quote) [ true ↦ closedAt k | false ↦ scan quote (eqb c (code "\\")) (suc k) r ]
 
 -- the item that comes of the look
-unfoldable pub markedItem : (ℕ → Item) → Scan → Item
-markedItem item ended = cut
-markedItem item (strayAt k) = stray (suc k)
-markedItem item (closedAt k) = item k
+unfoldable pub quotedItem : (ℕ → Item) → Scan → Item
+quotedItem item ended = cut
+quotedItem item (strayAt k) = stray (suc k)
+quotedItem item (closedAt k) = item k
 
--- atom, string, tag, comment: bytes up to the same mark
-unfoldable pub marked : ℕ → (ℕ → Item) → List ℕ → Item
-marked mark item r = markedItem item (scan mark false 0 r)
+-- atom, string, tag, comment: bytes up to the same quote (01's mark)
+unfoldable pub quoted : ℕ → (ℕ → Item) → List ℕ → Item
+quoted quote item r = quotedItem item (scan quote false 0 r)
 
 -- what a run of digits comes to: the slice's end, or a value and the count of bytes passed
 pub data Digits : Type 0 where
@@ -79,10 +79,10 @@ unfoldable pub itemOf : Class → ℕ → List ℕ → Item
 itemOf B.white c r = whiteItem
 itemOf B.digit c r = integerOf (λ v. pos v) (digits (c - code "0") 0 r)
 itemOf B.minus c r = negative r
-itemOf B.atomMark c r = marked (code "'") atomItem r
-itemOf B.stringMark c r = marked (code "\"") stringItem r
-itemOf B.tagMark c r = marked (code "`") tagItem r
-itemOf B.commentMark c r = marked (code "%") commentItem r
+itemOf B.atomQuote c r = quoted (code "'") atomItem r
+itemOf B.stringQuote c r = quoted (code "\"") stringItem r
+itemOf B.tagQuote c r = quoted (code "`") tagItem r
+itemOf B.commentQuote c r = quoted (code "%") commentItem r
 itemOf B.leftBrace c r = openItem
 itemOf B.rightBrace c r = closeItem
 itemOf B.tilde c r = tildeItem

@@ -1,5 +1,6 @@
 -- 01, 'The machine', and from 'Refusal numbers' when each of 3 to 14 and 17 is given, in each item's order:
--- the UBF(A) stack machine, over any notion of value. 12, 13 and 14 stand last in every item, so one check after the step gives them.
+-- the UBF(A) stack machine, over any notion of value. 12, 13 and 14 stand last in every item's order, so one check after the step
+-- gives them; an item whose order leaves one of them out adds nothing to that table, which had room before.
 use Prim.Native.Nat.{ℕ, zero, suc, _+_, _-_}
 use Prim.Native.Char.{code}
 use mathlib.Core.Bool.{Bool, cond}
@@ -19,15 +20,15 @@ pub data Shape (A : Type 0) : Type 0 where
   tuple : List A → Shape A
   tag : ℕ → List ℕ → A → Shape A
 
--- a notion of value: what is stored for the values made so far, how the item at an offset makes one more,
+-- a notion of value: what is kept of the values made so far, how the item at an offset makes one more,
 -- and the two things that the machine asks of a value
 pub record Values : Type 1 where
-  pub Store : Type 0
+  pub Memory : Type 0
   pub Value : Type 0
-  pub empty : Store
-  pub make : ℕ → Shape Value → Store → Store × Value
-  pub integerIn : Store → Value → Option ℤ
-  pub isList : Store → Value → Bool
+  pub empty : Memory
+  pub make : ℕ → Shape Value → Memory → Memory × Value
+  pub integerIn : Memory → Value → Option ℤ
+  pub isList : Memory → Value → Bool
 
 -- room in rows, stack and marks (01's noted depths)
 pub record Limits : Type 0 where
@@ -51,11 +52,11 @@ module _ (𝒱 : Values) where
     pub stack : List (𝒱 .Value)
     pub marks : List ℕ
     pub registers : ℕ → Option (𝒱 .Value)
-    pub store : 𝒱 .Store
+    pub memory : 𝒱 .Memory
 
   -- at the start stack and registers are empty and no depth is noted
   unfoldable pub start : Machine
-  start = record { stack = []; marks = []; registers = λ r. none; store = 𝒱 .empty }
+  start = record { stack = []; marks = []; registers = λ r. none; memory = 𝒱 .empty }
 
   -- what an item does: it refuses with a number at a place; goes on past so many bytes after its first, so many rows made; or ends the message
   pub data Step : Type 0 where
@@ -66,15 +67,11 @@ module _ (𝒱 : Values) where
   -- a new value over the stack st, made by the item at `at`
   unfoldable pub fresh : ℕ → Shape (𝒱 .Value) → List (𝒱 .Value) → List ℕ → Machine → Machine
   fresh at shape st marks m = record {
-    stack = 𝒱 .make at shape (m .store) .1 ∷ st;
+    stack = 𝒱 .make at shape (m .memory) .1 ∷ st;
     marks = marks;
     registers = m .registers;
-    store = 𝒱 .make at shape (m .store) .0;
+    memory = 𝒱 .make at shape (m .memory) .0;
   }
-
-  -- the machine with another stack
-  unfoldable pub onStack : List (𝒱 .Value) → Machine → Machine
-  onStack st m = record { stack = st; marks = m .marks; registers = m .registers; store = m .store }
 
   -- the registers after a store
   unfoldable pub setRegister : ℕ → 𝒱 .Value → (ℕ → Option (𝒱 .Value)) → ℕ → Option (𝒱 .Value)
@@ -95,7 +92,7 @@ module _ (𝒱 : Values) where
 
   -- `&`, item v and list l popped: 7, or v before l
   unfoldable pub consList : ℕ → Machine → 𝒱 .Value → 𝒱 .Value → List (𝒱 .Value) → Step
-  consList at m v l st = cond (𝒱 .isList (m .store) l) (go 0 1 (fresh at (cons v l) st (m .marks) m)) (refuse 7 at)
+  consList at m v l st = cond (𝒱 .isList (m .memory) l) (go 0 1 (fresh at (cons v l) st (m .marks) m)) (refuse 7 at)
 
   -- `}`: 10 with nothing noted, 17 at a depth under the mark, or a tuple of all above it, in the order they came
   unfoldable pub closeTuple : ℕ → Machine → List ℕ → Step
@@ -108,7 +105,7 @@ module _ (𝒱 : Values) where
   -- a push of what a register holds: 9 if it is empty, or a copy, and the register keeps it
   unfoldable pub pushRegister : ℕ → Machine → Option (𝒱 .Value) → Step
   pushRegister at m none = refuse 9 at
-  pushRegister at m (some v) = go 0 0 (onStack (v ∷ m .stack) m)
+  pushRegister at m (some v) = go 0 0 (record { stack = v ∷ m .stack; marks = m .marks; registers = m .registers; memory = m .memory })
 
   -- `$` with nothing noted: 11, or the one value
   unfoldable pub onlyValue : ℕ → List (𝒱 .Value) → Step
@@ -129,15 +126,15 @@ module _ (𝒱 : Values) where
   step at r m (atomItem k) = go (suc k) 1 (fresh at (atom (suc at) (take k r)) (m .stack) (m .marks) m)
   step at r m (stringItem k) = go (suc k) 1 (fresh at (string (suc at) (take k r)) (m .stack) (m .marks) m)
   step at r m (tagItem k) = pop at (m .marks) (m .stack) (λ v st. go (suc k) 1 (fresh at (tag (suc at) (take k r) v) st (m .marks) m))
-  step at r m openItem = go 0 0 (record { stack = m .stack; marks = length (m .stack) ∷ m .marks; registers = m .registers; store = m .store })
+  step at r m openItem = go 0 0 (record { stack = m .stack; marks = length (m .stack) ∷ m .marks; registers = m .registers; memory = m .memory })
   step at r m closeItem = closeTuple at m (m .marks)
-  step at r m tildeItem = pop at (m .marks) (m .stack) (λ v st. takeBinary at r m st (𝒱 .integerIn (m .store) v))
+  step at r m tildeItem = pop at (m .marks) (m .stack) (λ v st. takeBinary at r m st (𝒱 .integerIn (m .memory) v))
   step at r m hashItem = go 0 1 (fresh at nil (m .stack) (m .marks) m)
   step at r m ampersandItem = pop at (m .marks) (m .stack) (λ v st. pop at (m .marks) st (λ l st′. consList at m v l st′))
   step at r m endItem = endMessage at m (m .marks)
   step at r m (storeItem x) =
       pop at (m .marks) (m .stack) (λ v st.
-      go 1 0 (record { stack = st; marks = m .marks; registers = setRegister x v (m .registers); store = m .store }))
+      go 1 0 (record { stack = st; marks = m .marks; registers = setRegister x v (m .registers); memory = m .memory }))
   step at r m (pushItem x) = pushRegister at m (m .registers x)
   step at r m cut = refuse 3 (suc at + length r)
   step at r m (stray k) = refuse 4 (at + k)
@@ -159,11 +156,11 @@ module _ (𝒱 : Values) where
   follow (go k w m) next end = next k w m
   follow (finish v) next end = end v
 
-  -- what a run under limits leaves: the rows used, the root, and what is stored
+  -- what a run under limits leaves: how many rows are used, the root, and what is kept of the values
   pub record Result : Type 0 where
-    pub rows : ℕ
+    pub used : ℕ
     pub root : 𝒱 .Value
-    pub store : 𝒱 .Store
+    pub memory : 𝒱 .Memory
 
   -- items go left to right; the message from `at` on, where `skip` bytes belong to an item already done and `used` rows are made
   unfoldable pub runFrom : Limits → List ℕ → ℕ → ℕ → ℕ → Machine → Outcome Result
@@ -172,7 +169,7 @@ module _ (𝒱 : Values) where
   runFrom lim (c ∷ r) zero at used m =
       follow (bounded lim at used (step at r m (lex c r)))
       (λ k w m′. runFrom lim r k (suc at) (used + w) m′)
-      (λ v. accepted (suc at) (record { rows = used; root = v; store = m .store }))
+      (λ v. accepted (suc at) (record { used = used; root = v; memory = m .memory }))
 
   -- a message under limits
   unfoldable pub run : Limits → List ℕ → Outcome Result

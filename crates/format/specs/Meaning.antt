@@ -50,10 +50,10 @@ termOf (M.cons v l) = T.list (v then itemsOf l)
 termOf (M.tuple vs) = T.tuple (termsFrom vs)
 termOf (M.tag start b v) = T.tag b v
 
--- terms as values: a push copies the whole content, and nothing is stored
+-- terms as values: a push copies the whole content, and nothing else is kept
 abbrev pub termValues : Values
 termValues = record {
-  Store = Unit {0};
+  Memory = Unit {0};
   Value = Term;
   empty = tt;
   make = λ at shape s. (tt, termOf shape);

@@ -120,10 +120,10 @@ isListKind k = eqb k nilKind || eqb k consKind
 unfoldable pub isTupleKind : ℕ → Bool
 isTupleKind k = eqb k endKind || eqb k fieldKind
 
--- row numbers as values: the rows made are stored
+-- row numbers as values: the rows made are kept
 abbrev pub rowValues : Values
 rowValues = record {
-  Store = List Row;
+  Memory = List Row;
   Value = ℕ;
   empty = [];
   make = λ at shape rows. makeRows shape rows;
@@ -153,16 +153,16 @@ noTerm = T.atom []
 unfoldable pub termOfRow : List ℕ → List Term → Row → Term
 termOfRow message ts r =
     let span = spanOf message (r .first) (r .second) in
-    let at : ℕ → Term = λ i. getD ts i noTerm in
+    let earlier : ℕ → Term = λ i. getD ts i noTerm in
     cond (eqb (r .kind) integerKind) (T.int (integerOfRow r))
     (cond (eqb (r .kind) atomKind) (T.atom span)
     (cond (eqb (r .kind) stringKind) (T.string span)
     (cond (eqb (r .kind) binaryKind) (T.binary span)
     (cond (eqb (r .kind) nilKind) (T.list T.none)
-    (cond (eqb (r .kind) consKind) (T.list (at (r .first) then itemsOf (at (r .second))))
+    (cond (eqb (r .kind) consKind) (T.list (earlier (r .first) then itemsOf (earlier (r .second))))
     (cond (eqb (r .kind) endKind) (T.tuple T.none)
-    (cond (eqb (r .kind) fieldKind) (T.tuple (at (r .first) then fieldsOf (at (r .second))))
-    (cond (eqb (r .kind) tagKind) (T.tag span (at (r .third)))
+    (cond (eqb (r .kind) fieldKind) (T.tuple (earlier (r .first) then fieldsOf (earlier (r .second))))
+    (cond (eqb (r .kind) tagKind) (T.tag span (earlier (r .third)))
     noTerm))))))))
 
 -- the terms of rows, after rows whose terms are ts

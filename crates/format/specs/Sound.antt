@@ -10,19 +10,19 @@ use Rattle.format.specs.Term as T
 use Rattle.format.specs.Term.{Term, Terms, _then_}
 use Rattle.format.specs.Rows.{Row, integerKind, atomKind, stringKind, binaryKind, nilKind, consKind, endKind, fieldKind, tagKind, rowAt, isListKind, isTupleKind, spanOf, rowsOf, rowRoom}
 
--- bytes as they may stand between two marks: no bad escape and no unescaped mark
+-- bytes as they may stand between two quotes: no bad escape and no unescaped closing quote
 unfoldable pub spelled : ℕ → Bool → List ℕ → Bool
-spelled mark escaped [] = not escaped
-spelled mark true (c ∷ r) = (eqb c (code "\\") || eqb c mark) && spelled mark false r
-spelled mark false (c ∷ r) = not (eqb c mark) && spelled mark (eqb c (code "\\")) r
+spelled quote escaped [] = not escaped
+spelled quote true (c ∷ r) = (eqb c (code "\\") || eqb c quote) && spelled quote false r
+spelled quote false (c ∷ r) = not (eqb c quote) && spelled quote (eqb c (code "\\")) r
 
 -- a span inside the slice, in arithmetic that does not wrap
 unfoldable pub inSlice : List ℕ → ℕ → ℕ → Bool
 inSlice message start n = leb (start + n) (length message)
 
--- a span inside the slice, spelled as between two marks
+-- a span inside the slice, spelled as between two quotes
 unfoldable pub spelledIn : List ℕ → ℕ → ℕ → ℕ → Bool
-spelledIn message mark start n = inSlice message start n && spelled mark false (spanOf message start n)
+spelledIn message quote start n = inSlice message start n && spelled quote false (spanOf message start n)
 
 -- piece 1: no more rows claimed than the table holds, nor than the bound
 unfoldable pub countFits : List ℕ → ℕ → Bool

@@ -27,11 +27,11 @@ unfoldable pub decimalOn : ℤ → List ℕ → List ℕ
 decimalOn (pos n) rest = naturalOn n rest
 decimalOn (negsuc n) rest = code "-" ∷ naturalOn (suc n) rest
 
--- bytes between two marks
+-- bytes between two quotes
 abbrev pub between : ℕ → List ℕ → List ℕ → List ℕ
-between mark bytes rest = mark ∷ bytes ++ mark ∷ rest
+between quote bytes rest = quote ∷ bytes ++ quote ∷ rest
 
--- integer: decimal and one blank; atom, string: marks and bytes as spelled; binary: count, `~`, bytes, `~`; tag: inner text, then the tag
+-- integer: decimal and one blank; atom, string: quotes and bytes as spelled; binary: count, `~`, bytes, `~`; tag: inner text, then the tag
 unfoldable mutual
   pub textOn : Term → List ℕ → List ℕ
   textOn (T.int z) rest = decimalOn z (code " " ∷ rest)

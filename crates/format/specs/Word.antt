@@ -34,6 +34,7 @@ formats =
     ∷ format "u16be" 2 false big ∷ format "u16le" 2 false little ∷ format "i16be" 2 true big ∷ format "i16le" 2 true little
     ∷ format "u32be" 4 false big ∷ format "u32le" 4 false little ∷ format "i32be" 4 true big ∷ format "i32le" 4 true little ∷ []
 
+-- the format that a name stands for; none where it is not known
 unfoldable pub formatIn : List Format → List ℕ → Option Format
 formatIn [] name = none
 formatIn (f ∷ fs) name = elim (sameBytes (f .name) name) [ true ↦ some f | false ↦ formatIn fs name ]

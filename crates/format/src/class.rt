@@ -9,13 +9,13 @@ pub const DIGIT: u8 = 1;
 
 pub const MINUS: u8 = 2;
 
-pub const ATOM_MARK: u8 = 3;
+pub const ATOM_QUOTE: u8 = 3;
 
-pub const STRING_MARK: u8 = 4;
+pub const STRING_QUOTE: u8 = 4;
 
-pub const TAG_MARK: u8 = 5;
+pub const TAG_QUOTE: u8 = 5;
 
-pub const COMMENT_MARK: u8 = 6;
+pub const COMMENT_QUOTE: u8 = 6;
 
 pub const LEFT_BRACE: u8 = 7;
 
@@ -71,12 +71,12 @@ const CLASSES: [u8; 256] = [
     REGISTER,
     WHITE,
     REGISTER,
-    STRING_MARK,
+    STRING_QUOTE,
     HASH,
     DOLLAR,
-    COMMENT_MARK,
+    COMMENT_QUOTE,
     AMPERSAND,
-    ATOM_MARK,
+    ATOM_QUOTE,
     REGISTER,
     REGISTER,
     REGISTER,
@@ -133,7 +133,7 @@ const CLASSES: [u8; 256] = [
     REGISTER,
     REGISTER,
     REGISTER,
-    TAG_MARK,
+    TAG_QUOTE,
     REGISTER,
     REGISTER,
     REGISTER,
