@@ -12,6 +12,7 @@ use Rattle.format.specs.Term as T
 use Rattle.format.specs.Term.{Term}
 use Rattle.format.specs.Bits.{fromBits}
 
+-- byte order: most significant byte first, or last
 pub data Order : Type 0 where
   big little : Order
 
@@ -22,11 +23,12 @@ pub record Format : Type 0 where
   pub signed : Bool
   pub order : Order
 
+-- a format by its name as text
 unfoldable pub format : String → ℕ → Bool → Order → Format
 unfolding bytesOf
 format name width signed order = record { name = bytesOf name; width = width; signed = signed; order = order }
 
--- of one byte there is one order
+-- the ten known names; of one byte there is one order
 unfoldable pub formats : List Format
 unfolding format
 formats =
@@ -44,11 +46,12 @@ unfoldable pub joinAfter : ℕ → List ℕ → ℕ
 joinAfter high [] = high
 joinAfter high (b ∷ bytes) = joinAfter (high * 256 + b) bytes
 
+-- bytes joined in an order
 unfoldable pub joined : Order → List ℕ → ℕ
 joined big bytes = joinAfter 0 bytes
 joined little bytes = joinAfter 0 (reverse bytes)
 
--- the word that some bytes are
+-- the word that some bytes are: i is two's complement
 unfoldable pub wordOf : Format → List ℕ → ℤ
 wordOf f bytes = cond (f .signed) (fromBits (8 * f .width) (joined (f .order) bytes)) (pos (joined (f .order) bytes))
 
@@ -57,6 +60,7 @@ pub record Word : Type 0 where
   pub number : ℕ
   pub value : ℤ
 
+-- a refusal
 abbrev pub noWord : ℕ → Word
 noWord number = record { number = number; value = pos 0 }
 
