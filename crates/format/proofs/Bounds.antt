@@ -6,13 +6,14 @@ use mathlib.Core.Bool.{Bool, true, false, _||_}
 use mathlib.Core.List.{List}
 use lib.ListN.{length}
 use borrow.Author.Tests.{lt-ltb, le-ltb}
+use Rattle.format.specs.Bound.{messageBound}
 use Rattle.format.specs.Rows.{rowRoom}
 use Rattle.format.specs.Word.{noWord}
 use Rattle.format.specs.Answer.{Tables, overBound, limitsOf, decodeRefusal, decodeAnswer, writeRefusal, writeAnswer, compareRefusal, compareAnswer, wordAnswer}
 
 pub within : (message : List ℕ) → length message ≤ 1048576 → overBound message ≡ false
 unfolding overBound
-within message h = le-ltb 1048576 (length message) h
+within message h = le-ltb messageBound (length message) h
 
 or-true : (b : Bool) → (b || true) ≡ true
 or-true true = refl
@@ -21,7 +22,7 @@ or-true false = refl
 module _ (message : List ℕ) (long : 1048576 < length message) where
   over : overBound message ≡ true
   unfolding overBound
-  over = lt-ltb 1048576 (length message) long
+  over = lt-ltb messageBound (length message) long
 
   pub decode-over : (t : Tables) → decodeAnswer message t ≡ decodeRefusal 1 0 t
   unfolding decodeAnswer

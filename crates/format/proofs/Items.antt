@@ -14,7 +14,7 @@ use Rattle.format.specs.Lex as L
 use Rattle.format.specs.Lex.{Item, Scan, Digits, inRange, lex, scan, digits, integerOf, quoted, quotedItem, negative, store, itemOf}
 use Rattle.format.specs.Sound.{spelled}
 
--- k bytes of r are spelled between two marks, and the closing mark follows them
+-- k bytes of r are spelled as between two quotes, and the closing quote follows them
 pub record Quoted (quote : ℕ) (r : List ℕ) (k : ℕ) : Type 0 where
   pub spells : T (spelled quote false (take k r))
   pub inside : k < length r

@@ -25,11 +25,12 @@ module _ (𝒱 : Values) (lim : Limits) where
     accepts : (k : ℕ) (res : Result 𝒱) → Under (accepted k res) (accepted k (res .root))
     short : (n p : ℕ) {b : Outcome (𝒱 .Value)} → NoRoom n → Under (refused n p) b
 
-  follow-short : (c : Bool) (n p : ℕ) (s : Step 𝒱) (next : ℕ → ℕ → Machine 𝒱 → Outcome (Result 𝒱)) (end : 𝒱 .Value → Outcome (Result 𝒱)) {b : Outcome (𝒱 .Value)}
-      → NoRoom n → Under (M.follow 𝒱 s next end) b → Under (M.follow 𝒱 (cond c (refuse n p) s) next end) b
+  -- a test of room: it refuses, or the step goes on where it fails
+  follow-cond : (P : Outcome (Result 𝒱) → Type 0) (c : Bool) (n p : ℕ) (s : Step 𝒱) (next : ℕ → ℕ → Machine 𝒱 → Outcome (Result 𝒱)) (end : 𝒱 .Value → Outcome (Result 𝒱))
+      → P (refused n p) → (c ≡ false → P (M.follow 𝒱 s next end)) → P (M.follow 𝒱 (cond c (refuse n p) s) next end)
   unfolding M.follow
-  follow-short true n p s next end h u = short n p h
-  follow-short false n p s next end h u = u
+  follow-cond P true n p s next end r f = r
+  follow-cond P false n p s next end r f = f refl
 
   follow-under : (at used : ℕ) (next : ℕ → ℕ → Machine 𝒱 → Outcome (Result 𝒱)) (end : 𝒱 .Value → Outcome (Result 𝒱))
       (next′ : ℕ → ℕ → Machine 𝒱 → Outcome (𝒱 .Value)) (end′ : 𝒱 .Value → Outcome (𝒱 .Value))
@@ -39,9 +40,11 @@ module _ (𝒱 : Values) (lim : Limits) where
   follow-under at used next end next′ end′ f g (refuse n p) = refuses n p
   follow-under at used next end next′ end′ f g (finish v) = g v
   follow-under at used next end next′ end′ f g (go k w m) =
-      follow-short (ltb (lim .rows) (used + w)) 12 at _ next end (omega arith)
-      (follow-short (ltb (lim .stack) (length (m .stack))) 13 at _ next end (omega arith)
-      (follow-short (ltb (lim .marks) (length (m .marks))) 14 at (go k w m) next end (omega arith) (f k w m)))
+      let b : Outcome (𝒱 .Value) = next′ k w m in
+      let P : Outcome (Result 𝒱) → Type 0 = λ a. Under a b in
+      follow-cond P (ltb (lim .rows) (used + w)) 12 at _ next end (short 12 at (omega arith)) (λ e.
+      follow-cond P (ltb (lim .stack) (length (m .stack))) 13 at _ next end (short 13 at (omega arith)) (λ e′.
+      follow-cond P (ltb (lim .marks) (length (m .marks))) 14 at (go k w m) next end (short 14 at (omega arith)) (λ e″. f k w m)))
 
   under-from : (s : List ℕ) (skip at used : ℕ) (m : Machine 𝒱) → Under (M.runFrom 𝒱 lim s skip at used m) (M.runFreeFrom 𝒱 s skip at m)
   unfolding M.runFrom M.runFreeFrom
@@ -112,12 +115,6 @@ module _ (𝒱 : Values) (lim : Limits) where
   Holds (refused n p) = Unit {0}
   Holds (accepted k res) = res .used ≤ lim .rows
 
-  follow-unless : (c : Bool) (n p : ℕ) (s : Step 𝒱) (next : ℕ → ℕ → Machine 𝒱 → Outcome (Result 𝒱)) (end : 𝒱 .Value → Outcome (Result 𝒱))
-      → (c ≡ false → Holds (M.follow 𝒱 s next end)) → Holds (M.follow 𝒱 (cond c (refuse n p) s) next end)
-  unfolding M.follow
-  follow-unless true n p s next end h = tt
-  follow-unless false n p s next end h = h refl
-
   follow-holds : (at used : ℕ) (next : ℕ → ℕ → Machine 𝒱 → Outcome (Result 𝒱)) (end : 𝒱 .Value → Outcome (Result 𝒱))
       → ((k w : ℕ) (m : Machine 𝒱) → used + w ≤ lim .rows → Holds (next k w m)) → ((v : 𝒱 .Value) → Holds (end v))
       → (s : Step 𝒱) → Holds (M.follow 𝒱 (M.bounded 𝒱 lim at used s) next end)
@@ -125,9 +122,9 @@ module _ (𝒱 : Values) (lim : Limits) where
   follow-holds at used next end f g (refuse n p) = tt
   follow-holds at used next end f g (finish v) = g v
   follow-holds at used next end f g (go k w m) =
-      follow-unless (ltb (lim .rows) (used + w)) 12 at _ next end (λ e.
-      follow-unless (ltb (lim .stack) (length (m .stack))) 13 at _ next end (λ e′.
-      follow-unless (ltb (lim .marks) (length (m .marks))) 14 at (go k w m) next end (λ e″. f k w m (ltb-false (lim .rows) (used + w) e))))
+      follow-cond Holds (ltb (lim .rows) (used + w)) 12 at _ next end tt (λ e.
+      follow-cond Holds (ltb (lim .stack) (length (m .stack))) 13 at _ next end tt (λ e′.
+      follow-cond Holds (ltb (lim .marks) (length (m .marks))) 14 at (go k w m) next end tt (λ e″. f k w m (ltb-false (lim .rows) (used + w) e))))
 
   holds-rows : (s : List ℕ) (skip at used : ℕ) (m : Machine 𝒱) → used ≤ lim .rows → Holds (M.runFrom 𝒱 lim s skip at used m)
   unfolding M.runFrom

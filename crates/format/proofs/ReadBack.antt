@@ -25,7 +25,7 @@ use Rattle.format.proofs.Tests.{true-of, false-of, left-of, right-of}
 use Rattle.format.proofs.Limits.{Under, NoRoom, refuses, accepts, short, under-limits}
 use Rattle.format.proofs.FreeRun.{free-go, free-skip, pop-ok, close-ok}
 
--- the closing mark is found where the spelled bytes end
+-- the closing quote is found where the spelled bytes end
 scan-spelled : (quote : ℕ) (escaped : Bool) (k : ℕ) (b r : List ℕ) → T (spelled quote escaped b) → scan quote escaped k (b ++ quote ∷ r) ≡ closedAt (k + length b)
 unfolding scan spelled
 scan-spelled quote true k [] r t = absurd t
@@ -153,7 +153,7 @@ stepping = tt
 
 -- the items that a plain text is made of, in front of rest
 module _ (rest : List ℕ) (st : List Term) (marks : List ℕ) (at : ℕ) where
-  -- bytes between two marks, where the item makes `make` of them
+  -- bytes between two quotes, where the item makes `make` of them
   read-quoted : (quote : ℕ) (item : ℕ → Item) (make : List ℕ → Term) (before : List Term)
       → ((r : List ℕ) → lex quote r ≡ quoted quote item r)
       → ((k : ℕ) (r : List ℕ) → step termValues at r (state before marks) (item k) ≡ go (suc k) 1 (state (make (take k r) ∷ st) marks))

@@ -71,8 +71,8 @@ module _ (message : List ℕ) (short : length message < 2 ^ 63) where
   unfolding spelledIn
   spelled-of quote a b h = right-of (inSlice message a b) (spelled quote false (spanOf message a b)) h
 
-  span-short : (a b : ℕ) → T (inSlice message a b) → T (ltb (length (spanOf message a b)) (2 ^ 63))
-  unfolding inSlice
+  span-short : (a b : ℕ) → T (inSlice message a b) → T (inRange (pos (length (spanOf message a b))))
+  unfolding inSlice inRange
   span-short a b h =
       let l : a + b ≤ length message = leb→le (a + b) (length message) h in
       let fits : length (take b (drop a message)) < 2 ^ 63 = simp length-take (omega arith) in

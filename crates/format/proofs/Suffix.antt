@@ -61,7 +61,7 @@ digits-agree n v j (c ∷ x) z e = cases (hasClass B.digit c) refl (digits-agree
     cases true e h = rw (e, digits) h
     cases false e h = rw (e, digits) same
 
--- a scan that meets its mark after n bytes
+-- a scan that meets its quote after n bytes
 abbrev FarScan : ℕ → Scan → Type 0
 FarScan n Scan.ended = Unit {0}
 FarScan n (L.strayAt k) = Unit {0}

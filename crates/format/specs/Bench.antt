@@ -45,6 +45,7 @@ claimOf d (accepted k r) =
     (accepts k (d .root) (rowsOf (d .used) (d .tables .rows)) (r .root) (plain (r .root)))
     disagree
 
+-- what they say of a message, with the tables t lent
 unfoldable pub claimed : Tables → List ℕ → Claim
 claimed t message = claimOf (decodeAnswer message t) (run termValues (limitsOf t) message)
 
@@ -52,6 +53,7 @@ claimed t message = claimOf (decodeAnswer message t) (run termValues (limitsOf t
 unfoldable pub told : Line → Line
 told (line rows stack marks message claim) = line rows stack marks message (claimed (lend rows stack marks) (bytesOf message))
 
+-- the same of every line
 unfoldable pub toldAll : List Line → List Line
 toldAll [] = []
 toldAll (l ∷ ls) = told l ∷ toldAll ls

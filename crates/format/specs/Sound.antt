@@ -1,8 +1,9 @@
 -- 01, 'Plain text', refusal 16: which tables are sound, in four pieces; and which terms they can stand for.
-use Prim.Native.Nat.{ℕ, _+_, _^_}
+use Prim.Native.Nat.{ℕ, _+_}
 use Prim.Native.Char.{code}
 use mathlib.Core.Bool.{Bool, true, false, _&&_, _||_, not, cond}
 use mathlib.Core.List.{List, [], _∷_, _++_}
+use lib.IntN.{pos}
 use lib.ListN.{length}
 use lib.Dec.{eqb, ltb, leb}
 use Rattle.format.specs.Lex.{inRange}
@@ -73,7 +74,7 @@ unfoldable mutual
   soundTerm (T.int z) = inRange z
   soundTerm (T.atom b) = spelled (code "'") false b
   soundTerm (T.string b) = spelled (code "\"") false b
-  soundTerm (T.binary b) = ltb (length b) (2 ^ 63)
+  soundTerm (T.binary b) = inRange (pos (length b))
   soundTerm (T.list ts) = soundTerms ts
   soundTerm (T.tuple ts) = soundTerms ts
   soundTerm (T.tag b t) = spelled (code "`") false b && soundTerm t
