@@ -36,13 +36,13 @@ pub rows-in : (words : List ℕ) (rows : List Row) → rowsOf (length rows) (row
 unfolding rowsIn
 rows-in words rows = rows-back rows _
 
-words-length : (rows : List Row) → length (wordsOf rows) ≡ rowWords * length rows
+pub words-length : (rows : List Row) → length (wordsOf rows) ≡ rowWords * length rows
 unfolding wordsOf
 words-length [] = refl
 words-length (r ∷ rows) = omega (arith, words-length rows)
 
 -- a table keeps its length where the rows have room in it
-rows-length : (words : List ℕ) (rows : List Row) → length rows ≤ rowRoom words → length (rowsIn words rows) ≡ length words
+pub rows-length : (words : List ℕ) (rows : List Row) → length rows ≤ rowRoom words → length (rowsIn words rows) ≡ length words
 unfolding rowsIn rowRoom
 rows-length words rows h = simp (length-append, length-replicate) (omega (arith, words-length rows))
 

@@ -34,12 +34,12 @@ module _ (𝒱 : Values) where
   pub adds : {at : ℕ} {r : List ℕ} {m : Machine 𝒱} (s : Step 𝒱) → Move 𝒱 at r m s → StepAdds m s
   unfolding M.fresh
   adds s (Mv.stops n p h) = h
-  adds s (Mv.rests k) = record { rows = omega arith; depth = omega arith; marks = omega arith }
-  adds s (Mv.makes k x) = record { rows = omega (arith, making-depth x); depth = omega (arith, making-depth x); marks = omega arith }
+  adds s (Mv.rests k h) = record { rows = omega arith; depth = omega arith; marks = omega arith }
+  adds s (Mv.makes k h x) = record { rows = omega (arith, making-depth x); depth = omega (arith, making-depth x); marks = omega arith }
   adds s Mv.opens = record { rows = omega arith; depth = omega arith; marks = omega arith }
   adds {m = m} s (Mv.tuples d k ds e l) =
       let n : length (drop k (m .stack)) ≡ length (m .stack) - k = length-drop k (m .stack) in
       record { rows = omega arith; depth = omega arith; marks = omega (arith, ap length e) }
-  adds s (Mv.stores x v p) = record { rows = omega (arith, ap length (p .splits)); depth = omega (arith, ap length (p .splits)); marks = omega arith }
+  adds s (Mv.stores x h v p) = record { rows = omega (arith, ap length (p .splits)); depth = omega (arith, ap length (p .splits)); marks = omega arith }
   adds s (Mv.pushes x v e) = record { rows = omega arith; depth = omega arith; marks = omega arith }
   adds s (Mv.ends v e) = ap length e

@@ -102,7 +102,7 @@ unfolding integerOf
 integer-ok sign r L.unfinished h = tt
 integer-ok sign r (L.value v k) h = cond-ok r (inRange (sign v)) (L.integerItem (sign v) k) L.tooLarge (λ t. (t, omega arith)) tt
 
-quoted-ok : (quote : ℕ) (item : ℕ → Item) (r : List ℕ) → ((k : ℕ) → Quoted quote r k → ItemOk r (item k)) → ItemOk r (quoted quote item r)
+pub quoted-ok : (quote : ℕ) (item : ℕ → Item) (r : List ℕ) → ((k : ℕ) → Quoted quote r k → ItemOk r (item k)) → ItemOk r (quoted quote item r)
 unfolding quoted quotedItem
 quoted-ok quote item r h = closes (scan quote false 0 r) (scan-ok quote false 0 r)
   where

@@ -39,15 +39,31 @@ module _ (𝒱 : Values) (at : ℕ) (r : List ℕ) (m : Machine 𝒱) where
 
   pub data Move : Step 𝒱 → Type 0 where
     stops : (n p : ℕ) → MachineNumber n → Move (refuse n p)
-    rests : (k : ℕ) → Move (go k 0 m)
-    makes : (k : ℕ) {shape : Shape (𝒱 .Value)} {st : List (𝒱 .Value)} → Making shape st → Move (go k 1 (M.fresh 𝒱 at shape st (m .marks) m))
+    rests : (k : ℕ) → k ≤ length r → Move (go k 0 m)
+    makes : (k : ℕ) → k ≤ length r → {shape : Shape (𝒱 .Value)} {st : List (𝒱 .Value)} → Making shape st → Move (go k 1 (M.fresh 𝒱 at shape st (m .marks) m))
     opens : Move (go 0 0 (record { stack = m .stack; marks = length (m .stack) ∷ m .marks; registers = m .registers; memory = m .memory }))
     tuples : (d k : ℕ) (ds : List ℕ) → m .marks ≡ d ∷ ds → d + k ≡ length (m .stack)
         → Move (go 0 (suc k) (M.fresh 𝒱 at (M.tuple (reverse (take k (m .stack)))) (drop k (m .stack)) ds m))
-    stores : (x : ℕ) (v : 𝒱 .Value) {st : List (𝒱 .Value)} → Popped (m .stack) v st
+    stores : (x : ℕ) → 1 ≤ length r → (v : 𝒱 .Value) {st : List (𝒱 .Value)} → Popped (m .stack) v st
         → Move (go 1 0 (record { stack = st; marks = m .marks; registers = M.setRegister 𝒱 x v (m .registers); memory = m .memory }))
     pushes : (x : ℕ) (v : 𝒱 .Value) → m .registers x ≡ some v → Move (go 0 0 (record { stack = v ∷ m .stack; marks = m .marks; registers = m .registers; memory = m .memory }))
     ends : (v : 𝒱 .Value) → m .stack ≡ v ∷ [] → Move (finish v)
+
+  -- an item's bytes lie in the slice
+  abbrev pub Inside : Step 𝒱 → Type 0
+  Inside (refuse n p) = Unit {0}
+  Inside (go k w m′) = k ≤ length r
+  Inside (finish v) = Unit {0}
+
+  pub inside : (s : Step 𝒱) → Move s → Inside s
+  inside s (stops n p h) = tt
+  inside s (rests k h) = h
+  inside s (makes k h x) = h
+  inside s opens = omega arith
+  inside s (tuples d k ds e l) = omega arith
+  inside s (stores x h v p) = h
+  inside s (pushes x v e) = omega arith
+  inside s (ends v e) = tt
 
   -- a test that refuses, or goes on where it fails
   unless : (c : Bool) (n p : ℕ) (s : Step 𝒱) → MachineNumber n → (c ≡ false → Move s) → Move (cond c (refuse n p) s)
@@ -72,11 +88,11 @@ module _ (𝒱 : Values) (at : ℕ) (r : List ℕ) (m : Machine 𝒱) where
   binary-move v st p (some (negsuc n)) e = stops 8 at (omega arith)
   binary-move v st p (some (pos n)) e =
       unless (leb (length r) n) 3 (suc at + length r) _ (omega arith) (λ l.
-      only-if (eqb (getD r n 0) (code "~")) 4 (suc at + n) _ (omega arith) (λ t. makes (suc n) (binaries n v p e (leb-false (length r) n l))))
+      only-if (eqb (getD r n 0) (code "~")) 4 (suc at + n) _ (omega arith) (λ t. makes (suc n) (leb-false (length r) n l) (binaries n v p e (leb-false (length r) n l))))
 
   cons-move : (v l : 𝒱 .Value) (mid st : List (𝒱 .Value)) → Popped (m .stack) v mid → Popped mid l st → Move (M.consList 𝒱 at m v l st)
   unfolding M.consList
-  cons-move v l mid st p q = only-if (𝒱 .isList (m .memory) l) 7 at _ (omega arith) (λ t. makes 0 (conses v l p q t))
+  cons-move v l mid st p q = only-if (𝒱 .isList (m .memory) l) 7 at _ (omega arith) (λ t. makes 0 (omega arith) (conses v l p q t))
 
   close-move : (ds : List ℕ) → m .marks ≡ ds → Move (M.closeTuple 𝒱 at m ds)
   unfolding M.closeTuple
@@ -102,19 +118,19 @@ module _ (𝒱 : Values) (at : ℕ) (r : List ℕ) (m : Machine 𝒱) where
 
   pub move : (i : Item) → ItemOk r i → Move (M.step 𝒱 at r m i)
   unfolding M.step
-  move L.whiteItem h = rests 0
-  move (L.commentItem k) h = rests (suc k)
-  move (L.atomItem k) h = makes (suc k) (atoms k h)
-  move (L.stringItem k) h = makes (suc k) (strings k h)
-  move (L.tagItem k) h = pop-move (m .stack) _ (λ v st p. makes (suc k) (tags k v p h))
-  move (L.integerItem z k) h = makes k (integers z (h .0))
+  move L.whiteItem h = rests 0 (omega arith)
+  move (L.commentItem k) h = rests (suc k) h
+  move (L.atomItem k) h = makes (suc k) (h .inside) (atoms k h)
+  move (L.stringItem k) h = makes (suc k) (h .inside) (strings k h)
+  move (L.tagItem k) h = pop-move (m .stack) _ (λ v st p. makes (suc k) (h .inside) (tags k v p h))
+  move (L.integerItem z k) h = makes k (h .1) (integers z (h .0))
   move L.openItem h = opens
   move L.closeItem h = close-move (m .marks) refl
   move L.tildeItem h = pop-move (m .stack) _ (λ v st p. binary-move v st p (𝒱 .integerIn (m .memory) v) refl)
-  move L.hashItem h = makes 0 nils
+  move L.hashItem h = makes 0 (omega arith) nils
   move L.ampersandItem h = pop-move (m .stack) _ (λ v mid p. pop-move mid _ (λ l st q. cons-move v l mid st p q))
   move L.endItem h = end-move (m .marks)
-  move (L.storeItem x) h = pop-move (m .stack) _ (λ v st p. stores x v p)
+  move (L.storeItem x) h = pop-move (m .stack) _ (λ v st p. stores x h v p)
   move (L.pushItem x) h = push-move x (m .registers x) refl
   move L.cut h = stops 3 (suc at + length r) (omega arith)
   move (L.stray k) h = stops 4 (at + k) (omega arith)

@@ -20,11 +20,11 @@ use Rattle.format.proofs.Moves as Mv
 use Rattle.format.proofs.Moves.{Move, Making, Popped, holds}
 
 -- row numbers below n: of a stack, of a register
-abbrev Below : ℕ → List ℕ → Type 0
+abbrev pub Below : ℕ → List ℕ → Type 0
 Below n [] = Unit {0}
 Below n (v ∷ vs) = (v < n) × Below n vs
 
-abbrev BelowIf : ℕ → Option ℕ → Type 0
+abbrev pub BelowIf : ℕ → Option ℕ → Type 0
 BelowIf n none = Unit {0}
 BelowIf n (some v) = v < n
 
@@ -103,19 +103,19 @@ module _ (message : List ℕ) where
       }
 
   -- the machine before the bytes s, with so many rows used
-  record Kept (at : ℕ) (s : List ℕ) (used : ℕ) (m : Machine rowValues) : Type 0 where
-    here : drop at message ≡ s
-    sound : T (soundRows message (m .memory))
-    count : length (m .memory) ≡ used
-    stack : Below (length (m .memory)) (m .stack)
-    registers : (x : ℕ) → BelowIf (length (m .memory)) (m .registers x)
+  pub record Kept (at : ℕ) (s : List ℕ) (used : ℕ) (m : Machine rowValues) : Type 0 where
+    pub here : drop at message ≡ s
+    pub sound : T (soundRows message (m .memory))
+    pub count : length (m .memory) ≡ used
+    pub stack : Below (length (m .memory)) (m .stack)
+    pub registers : (x : ℕ) → BelowIf (length (m .memory)) (m .registers x)
 
   pub record Accepted (consumed : ℕ) (res : Result rowValues) : Type 0 where
     pub sound : T (soundRows message (res .memory))
     pub count : length (res .memory) ≡ res .used
     pub root : res .root < res .used
 
-  pass : (at c : ℕ) (r : List ℕ) (used : ℕ) (m : Machine rowValues) → Kept at (c ∷ r) used m → Kept (suc at) r used m
+  pub pass : (at c : ℕ) (r : List ℕ) (used : ℕ) (m : Machine rowValues) → Kept at (c ∷ r) used m → Kept (suc at) r used m
   pass at c r used m k = record { here = drop-next message at (k .here); sound = k .sound; count = k .count; stack = k .stack; registers = k .registers }
 
   module _ (at c : ℕ) (r : List ℕ) (used : ℕ) (m : Machine rowValues) (k : Kept at (c ∷ r) used m) where
@@ -191,18 +191,18 @@ module _ (message : List ℕ) where
         cases true = h
         cases false = k .registers y
 
-    keeps : (lim : Limits) (s : Step rowValues) → Move rowValues at r m s → Mv.Next rowValues lim Kept Accepted at r used m s
+    pub keeps : (lim : Limits) (s : Step rowValues) → Move rowValues at r m s → Mv.Next rowValues lim Kept Accepted at r used m s
     unfolding makeRows
     keeps lim s (Mv.stops n p h) = h
-    keeps lim s (Mv.rests j) = still refl (k .stack) (k .registers)
-    keeps lim s (Mv.makes j {shape} {st} x) = fresh-kept 1 shape st (m .marks) (made x .0) (made x .1)
+    keeps lim s (Mv.rests j i) = still refl (k .stack) (k .registers)
+    keeps lim s (Mv.makes j i {shape} {st} x) = fresh-kept 1 shape st (m .marks) (made x .0) (made x .1)
     keeps lim s Mv.opens = still refl (k .stack) (k .registers)
     keeps lim s (Mv.tuples d j ds e l) =
         let vs : List ℕ = reverse (take j (m .stack)) in
         let n : length vs ≡ j = length-reverse (take j (m .stack)) ∙ length-take-le j (m .stack) (omega arith) in
         let b : Below (length (m .memory)) vs = below-reverse (length (m .memory)) (take j (m .stack)) [] (below-take (length (m .memory)) j (m .stack) (k .stack)) tt in
         fresh-kept (suc j) (M.tuple vs) (drop j (m .stack)) ds (below-drop (length (m .memory)) j (m .stack) (k .stack)) (rw n at (grown-tuple (m .memory) (k .sound) vs b .grown))
-    keeps lim s (Mv.stores x v p) =
+    keeps lim s (Mv.stores x i v p) =
         let a = popped (k .stack) p in
         still refl (a .1) (set-kept x v (a .0))
     keeps lim s (Mv.pushes x v e) = still refl (subst (BelowIf (length (m .memory))) e (k .registers x), k .stack) (k .registers)
@@ -210,7 +210,7 @@ module _ (message : List ℕ) where
         let a : Below (length (m .memory)) (v ∷ []) = subst (Below (length (m .memory))) e (k .stack) in
         record { sound = k .sound; count = k .count; root = omega (arith, a .0, k .count) }
 
-  start-kept : Kept 0 message 0 (M.start rowValues)
+  pub start-kept : Kept 0 message 0 (M.start rowValues)
   unfolding M.start soundRows soundAfter
   start-kept = record { here = refl; sound = tt; count = refl; stack = tt; registers = λ x. tt }
 

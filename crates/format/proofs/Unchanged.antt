@@ -22,7 +22,7 @@ pub record SameLengths (t t′ : Tables) : Type 0 where
   pub registers : length (t .registers) ≡ length (t′ .registers)
 
 module _ (t t′ : Tables) (s : SameLengths t t′) where
-  same-limits : limitsOf t ≡ limitsOf t′
+  pub same-limits : limitsOf t ≡ limitsOf t′
   unfolding limitsOf rowRoom
   same-limits = rw (s .rows, s .stack, s .marks) refl
 

@@ -35,6 +35,9 @@ pub const COMMA: u8 = 14;
 
 pub const REGISTER: u8 = 15;
 
+// The first digit.
+pub const ZERO: u8 = 48;
+
 // Byte by byte, from 0.
 const CLASSES: [u8; 256] = [
     REGISTER,

@@ -1,6 +1,9 @@
-//! The UBF(A) format: the types that every crate shares, and the class of each byte.
+//! The UBF(A) format: the types that every crate shares, the class of each byte, and the paper's numbers.
 
+pub mod bound;
 pub mod class;
+pub mod kind;
+pub mod refusal;
 
 // The number of a row in a row table.
 pub struct Row(pub u32);
@@ -10,3 +13,6 @@ pub struct Offset(pub usize);
 
 // A stack depth: how many values lie below.
 pub struct Depth(pub u32);
+
+// Words of a row.
+pub const ROW_WORDS: usize = 4;

@@ -1,0 +1,43 @@
+//! Quoted text: the bytes of an atom, a string, a tag or a comment after its opening quote.
+ghost use mathlib.Core.Path.{_≡_};
+ghost use lib.ListN.{drop};
+ghost use Rattle.lexer.specs.Quoted.{quotedFrom};
+use format::Offset;
+
+pub const BACKSLASH: u8 = 92;
+
+// How many bytes stand before the closing quote, with the place after it; a byte not allowed there; or the slice's end,
+// and whether a backslash is the last byte read.
+pub enum Quoted {
+    Closed(usize, Offset),
+    Stray(Offset),
+    Ended(bool),
+}
+
+// Reads on from `from` to the closing quote; `escaped` says that the byte before is a backslash that escapes the next.
+pub fn read_quoted(message: &[u8], from: Offset, quote: u8, escaped: bool) -> Quoted
+    ensures { λ r. ⌜ r ≡ quotedFrom quote escaped (from .0) (drop (from .0) (now (message .entry))) ⌝ }
+{
+    let start = from.0;
+    let mut i = start;
+    let mut open = escaped;
+    while i < message.len() {
+        let b = message[i];
+        let next = i + 1;
+        if open {
+            if b != BACKSLASH {
+                if b != quote {
+                    return Quoted::Stray(Offset(i));
+                }
+            }
+            open = false;
+        } else {
+            if b == quote {
+                return Quoted::Closed(i - start, Offset(next));
+            }
+            open = b == BACKSLASH;
+        }
+        i = next;
+    }
+    Quoted::Ended(open)
+}

@@ -1,0 +1,143 @@
+-- Rows that lie at the head of a table with zeros past them, and the values of a stack: how they change as rows are stored and
+-- values are pushed.
+use Prim.Native.Nat.{ℕ, zero, suc, _+_, _*_, _-_, _≤_, _<_}
+use mathlib.Core.Path.{_≡_, refl, ap, sym, _∙_}
+use mathlib.Core.Bool.{Bool, true, false}
+use mathlib.Core.List.{List, [], _∷_, _++_, reverse, append-assoc, reverseAux-eq, reverse-reverse}
+use native.Mathlib.Nat.{add-zero, add-suc, suc-add, sub-zero, zero-sub, suc-sub-suc, le-refl}
+use native.Mathlib.Omega.{arith}
+use lib.ListN.{length, drop, getD, set, replicate, length-append, length-replicate, length-reverse, List·getD-eq-default}
+use lib.Seq.{sets, sets-eq, take-append-seam, drop-append-add, getD-set-same, getD-set-other}
+use lib.Dec.{ltb}
+use borrow.Author.Tests.{le-leb, lt-leb, lt-ltb, le-ltb, ltb-true, ltb-false}
+use Rattle.format.specs.Rows.{Row, row, rowWords, wordsOf, rowRoom, rowAt, fieldRow, add, addTuple}
+use Rattle.format.specs.Answer.{rowsIn}
+use Rattle.format.proofs.Decoded.{words-length, rows-length}
+use Rattle.table.specs.Words.{rowIn, storedRows, lastFirst, fieldRows, tupleRows}
+
+abbrev zeros : ℕ → List ℕ
+zeros n = replicate n 0
+
+-- a row by the four words from i on
+abbrev rowFrom : List ℕ → ℕ → Row
+rowFrom words i = row (getD words i 0) (getD words (i + 1) 0) (getD words (i + 2) 0) (getD words (i + 3) 0)
+
+module _ (words : List ℕ) (n : ℕ) where
+  pub row-inside : n < rowRoom words → rowIn words n ≡ rowFrom words (n * rowWords)
+  unfolding rowIn
+  row-inside h = simp (lt-ltb _ _ h, add-zero)
+
+  pub row-outside : rowRoom words ≤ n → rowIn words n ≡ row 0 0 0 0
+  unfolding rowIn
+  row-outside h = simp (le-ltb _ _ h)
+
+  module _ (rows : List Row) where
+    pub stored : n + length rows ≤ rowRoom words → storedRows words n rows ≡ sets words (n * rowWords) (wordsOf rows)
+    unfolding storedRows
+    stored h = simp (le-leb _ _ h)
+
+    pub not-stored : rowRoom words < n + length rows → storedRows words n rows ≡ words
+    unfolding storedRows
+    not-stored h = simp (lt-leb _ _ h)
+
+words-append : (mem rows : List Row) → wordsOf (mem ++ rows) ≡ wordsOf mem ++ wordsOf rows
+unfolding wordsOf
+words-append [] rows = refl
+words-append (r ∷ mem) rows = rw (words-append mem rows)
+
+drop-zeros : (k n : ℕ) → drop k (zeros n) ≡ zeros (n - k)
+drop-zeros zero n = rw sub-zero
+drop-zeros (suc k) zero = rw zero-sub
+drop-zeros (suc k) (suc n) = rw suc-sub-suc (drop-zeros k n)
+
+-- words stored where the zeros begin
+sets-zeros : (front vs : List ℕ) (n : ℕ) → length vs ≤ n → sets (front ++ zeros n) (length front) vs ≡ front ++ vs ++ zeros (n - length vs)
+sets-zeros front vs n h =
+    sets-eq vs (front ++ zeros n) (length front) (simp (length-append, length-replicate) (omega arith))
+    ∙ rw (take-append-seam, drop-append-add, drop-zeros)
+
+module _ (words : List ℕ) (mem : List Row) where
+  same-room : length mem ≤ rowRoom words → rowRoom (rowsIn words mem) ≡ rowRoom words
+  unfolding rowRoom
+  same-room h = rw (rows-length words mem h)
+
+  sets-after : (rows : List Row) → length mem + length rows ≤ rowRoom words → sets (rowsIn words mem) (length mem * rowWords) (wordsOf rows) ≡ rowsIn words (mem ++ rows)
+  unfolding rowsIn rowRoom
+  sets-after rows h =
+      let i : length mem * rowWords ≡ length (wordsOf mem) = omega (arith, words-length mem) in
+      let n : (length words - length (wordsOf mem)) - length (wordsOf rows) ≡ length words - (length (wordsOf mem) + length (wordsOf rows)) = omega arith in
+      rw (i, words-append, length-append, ← n) (sets-zeros (wordsOf mem) (wordsOf rows) _ (omega (arith, words-length mem, words-length rows)))
+
+  -- rows stored after those that lie there
+  pub stored-after : (rows : List Row) → length mem + length rows ≤ rowRoom words → storedRows (rowsIn words mem) (length mem) rows ≡ rowsIn words (mem ++ rows)
+  stored-after rows h =
+      let room : length mem + length rows ≤ rowRoom (rowsIn words mem) = rw (same-room (omega arith)) h in
+      stored (rowsIn words mem) (length mem) rows room ∙ sets-after rows h
+
+pub getD-zeros : (n i : ℕ) → getD (zeros n) i 0 ≡ 0
+getD-zeros zero i = refl
+getD-zeros (suc n) zero = refl
+getD-zeros (suc n) (suc i) = getD-zeros n i
+
+row-words : (mem : List Row) (n v : ℕ) → rowFrom (wordsOf mem ++ zeros n) (v * rowWords) ≡ rowAt mem v
+unfolding wordsOf rowAt
+row-words [] n v = simp getD-zeros
+row-words (r ∷ mem) n zero = refl
+row-words (r ∷ mem) n (suc v) =
+    let word : (i : ℕ) → suc v * rowWords + i ≡ suc (suc (suc (suc (v * rowWords + i)))) = λ i. omega arith in
+    let first : suc v * rowWords ≡ suc (suc (suc (suc (v * rowWords)))) = omega arith in
+    rw (word 1, word 2, word 3, first) (row-words mem n v)
+
+-- a row that lies there; past them all, zeros
+pub row-in : (words : List ℕ) (mem : List Row) (v : ℕ) → length mem ≤ rowRoom words → rowIn (rowsIn words mem) v ≡ rowAt mem v
+unfolding rowsIn rowAt
+row-in words mem v h = cases (ltb v (rowRoom words)) refl
+  where
+    cases : (b : Bool) → ltb v (rowRoom words) ≡ b → rowIn (rowsIn words mem) v ≡ rowAt mem v
+    cases true e = row-inside (rowsIn words mem) v (rw (same-room words mem h) (ltb-true _ _ e)) ∙ row-words mem (length words - length (wordsOf mem)) v
+    cases false e =
+        let past = ltb-false v (rowRoom words) e in
+        row-outside (rowsIn words mem) v (rw (same-room words mem h) past) ∙ sym (List·getD-eq-default mem (row 0 0 0 0) (omega arith))
+
+-- a value stored above so many
+pub kept : (words : List ℕ) (d n v : ℕ) → n ≤ d → lastFirst (set words d v) n ≡ lastFirst words n
+unfolding lastFirst
+kept words d zero v h = refl
+kept words d (suc n) v h = rw (getD-set-other words d n v 0 (λ e. omega arith), kept words d n v (omega arith))
+
+-- a value pushed
+pub pushed : (words : List ℕ) (d v : ℕ) → d < length words → lastFirst (set words d v) (suc d) ≡ v ∷ lastFirst words d
+unfolding lastFirst
+pushed words d v h = rw (getD-set-same words d v 0 h, kept words d d v (le-refl d))
+
+pub length-lastFirst : (words : List ℕ) (n : ℕ) → length (lastFirst words n) ≡ n
+unfolding lastFirst
+length-lastFirst words zero = refl
+length-lastFirst words (suc n) = ap suc (length-lastFirst words n)
+
+-- values popped
+pub drop-lastFirst : (words : List ℕ) (k n : ℕ) → k ≤ n → drop k (lastFirst words n) ≡ lastFirst words (n - k)
+unfolding lastFirst
+drop-lastFirst words zero n h = rw sub-zero
+drop-lastFirst words (suc k) zero h = absurd (omega arith)
+drop-lastFirst words (suc k) (suc n) h = rw suc-sub-suc (drop-lastFirst words k n (omega arith))
+
+pub length-fields : (rest : ℕ) (vs : List ℕ) → length (fieldRows rest vs) ≡ length vs
+unfolding fieldRows
+length-fields rest [] = refl
+length-fields rest (v ∷ vs) = ap suc (length-fields (suc rest) vs)
+
+-- one field more
+fields-snoc : (rest : ℕ) (vs : List ℕ) (v : ℕ) → fieldRows rest (vs ++ (v ∷ [])) ≡ fieldRows rest vs ++ (fieldRow v (rest + length vs) ∷ [])
+unfolding fieldRows
+fields-snoc rest [] v = rw add-zero
+fields-snoc rest (x ∷ vs) v = rw (fields-snoc (suc rest) vs v, add-suc, suc-add)
+
+tuple-of : (mem : List Row) (vs : List ℕ) → addTuple mem vs ≡ (mem ++ tupleRows (length mem) (reverse vs), length mem + length vs)
+unfolding addTuple add tupleRows fieldRows
+tuple-of mem [] = rw add-zero
+tuple-of mem (v ∷ vs) = simp (tuple-of mem vs, reverseAux-eq vs (v ∷ []), fields-snoc, length-append, length-fields, length-reverse, append-assoc)
+
+-- the rows of a tuple are those that the machine makes
+pub tuple-rows : (mem : List Row) (vs : List ℕ) → addTuple mem (reverse vs) ≡ (mem ++ tupleRows (length mem) vs, length mem + length vs)
+tuple-rows mem vs = simp (tuple-of, reverse-reverse, length-reverse)

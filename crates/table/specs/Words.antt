@@ -1,0 +1,46 @@
+-- The words of tables: rows stored and read in them, and the values of a stack.
+use Prim.Native.Nat.{ℕ, zero, suc, _+_, _*_, _-_}
+use mathlib.Core.Bool.{_&&_, cond}
+use mathlib.Core.List.{List, [], _∷_}
+use lib.ListN.{length, take, getD}
+use lib.Seq.{sets}
+use lib.Dec.{leb, ltb}
+use Rattle.format.specs.Rows.{Row, row, rowWords, wordsOf, rowRoom, endRow, fieldRow}
+use Rattle.table.specs.declared.RowWords.{RowWords}
+
+-- the row of a row's words
+abbrev pub rowOf : RowWords → Row
+rowOf w = row (w .kind) (w .first) (w .second) (w .third)
+
+-- rows stored from row n on, where there is room for all of them
+unfoldable pub storedRows : List ℕ → ℕ → List Row → List ℕ
+storedRows words n rows = cond (leb (n + length rows) (rowRoom words)) (sets words (n * rowWords) (wordsOf rows)) words
+
+-- row n; zeros past the room
+unfoldable pub rowIn : List ℕ → ℕ → Row
+rowIn words n =
+    let word : ℕ → ℕ = λ i. getD words (n * rowWords + i) 0 in
+    cond (ltb n (rowRoom words)) (row (word 0) (word 1) (word 2) (word 3)) (row 0 0 0 0)
+
+-- the first n words, the last of them first: a stack's values, top first
+unfoldable pub lastFirst : List ℕ → ℕ → List ℕ
+lastFirst words zero = []
+lastFirst words (suc n) = getD words n 0 ∷ lastFirst words n
+
+-- the values above `base` and up to `depth`, top first
+unfoldable pub between : List ℕ → ℕ → ℕ → List ℕ
+between stack base depth = take (depth - base) (lastFirst stack depth)
+
+-- the rows of a tuple's fields, from the last to the first; `rest` is the row made before
+unfoldable pub fieldRows : ℕ → List ℕ → List Row
+fieldRows rest [] = []
+fieldRows rest (v ∷ vs) = fieldRow v rest ∷ fieldRows (suc rest) vs
+
+-- `}`: the end, then the fields from the last to the first
+unfoldable pub tupleRows : ℕ → List ℕ → List Row
+tupleRows n values = endRow ∷ fieldRows n values
+
+-- the rows of a tuple stored from row n on, where its values lie on the stack
+unfoldable pub storedTuple : List ℕ → List ℕ → ℕ → ℕ → ℕ → List ℕ
+storedTuple words stack base depth n =
+    cond (leb base depth && leb depth (length stack)) (storedRows words n (tupleRows n (between stack base depth))) words
