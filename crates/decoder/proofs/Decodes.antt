@@ -1,0 +1,111 @@
+-- From what the run leaves to the decoder's whole answer.
+use Prim.Native.Nat.{ℕ, _≤_, _<_, min}
+use mathlib.Core.Path.{_≡_, refl, ap, sym, _∙_}
+use mathlib.Core.List.{List, []}
+use native.Mathlib.Nat.{sub-zero}
+use native.Mathlib.Omega.{arith}
+use lib.ListN.{length, length-replicate}
+use borrow.Author.Tests.{lt-ltb, le-ltb}
+use Rattle.format.specs.Bound.{messageBound, registerWords}
+use Rattle.format.specs.Machine as M
+use Rattle.format.specs.Machine.{Outcome, Result, refused, accepted}
+use Rattle.format.specs.Rows.{Row, rowValues, rowRoom, wordsOf}
+use Rattle.format.specs.Answer.{Tables, overBound, zeroed, limitsOf, rowsIn, cleared, decodeRefusal, decodeResult, decodeAnswer}
+use Rattle.format.specs.declared.Offset.{Offset}
+use Rattle.format.specs.declared.Row.{Row as RowNumber}
+use Rattle.format.proofs.Unchanged.{SameLengths}
+use Rattle.decoder.specs.declared.Decoded.{Decoded}
+use Rattle.decoder.specs.declared.Decoded.the-variants.{Accepted, Refused}
+use Rattle.decoder.specs.Answers.{tables, decodedAs}
+use Rattle.decoder.specs.Held.{Left, leftAs, leftBy, settled}
+
+module _ (message : List ℕ) (t : Tables) where
+  -- before reading starts
+  pub over : messageBound < length message → decodedAs (Refused 1 (record { 0 = 0 })) t ≡ decodeAnswer message t
+  unfolding decodedAs decodeAnswer overBound
+  over h = rw (lt-ltb messageBound (length message) h) refl
+
+  module _ (inBound : length message ≤ messageBound) where
+    pub short : length (t .registers) < registerWords → decodedAs (Refused 2 (record { 0 = 0 })) t ≡ decodeAnswer message t
+    unfolding decodedAs decodeAnswer overBound
+    short h = rw (le-ltb messageBound (length message) inBound, lt-ltb (length (t .registers)) registerWords h) refl
+
+    -- the machine's answer
+    started : registerWords ≤ length (t .registers) → decodeAnswer message t ≡ decodeResult t (M.run rowValues (limitsOf t) message)
+    unfolding decodeAnswer overBound
+    started h = rw (le-ltb messageBound (length message) inBound, le-ltb (length (t .registers)) registerWords h) refl
+
+-- clearing goes by lengths
+length-zeroed : (words : List ℕ) → length (zeroed words) ≡ length words
+unfolding zeroed
+length-zeroed words = length-replicate (length words) 0
+
+same-zeroed : (words old : List ℕ) → length words ≡ length old → zeroed words ≡ zeroed old
+unfolding zeroed
+same-zeroed words old e = rw e refl
+
+no-rows : (words : List ℕ) → rowsIn words [] ≡ zeroed words
+unfolding rowsIn zeroed wordsOf
+no-rows words = rw sub-zero refl
+
+cleared-rows : (words : List ℕ) (rows : List Row) → rowsIn (zeroed words) rows ≡ rowsIn words rows
+unfolding rowsIn
+cleared-rows words rows = rw (length-zeroed words) refl
+
+left-cleared : (words : List ℕ) (o : Outcome (Result rowValues)) → leftBy (zeroed words) o ≡ leftBy words o
+unfolding leftBy
+left-cleared words (refused n p) = refl
+left-cleared words (accepted k r) = rw (cleared-rows words (r .memory)) refl
+
+cleared-limits : (rows stack marks registers : List ℕ) → limitsOf (tables (zeroed rows) stack marks (zeroed registers)) ≡ limitsOf (tables rows stack marks registers)
+unfolding limitsOf rowRoom
+cleared-limits rows stack marks registers = rw (length-zeroed rows) refl
+
+-- the tables t as lent; rows and registers are cleared, the run leaves the tables u, and they are settled
+module _ (t u : Tables) (same : SameLengths t u) where
+  result : (o : Outcome (Result rowValues)) (r : Decoded) → leftAs r (u .rows) ≡ leftBy (t .rows) o → decodedAs r (settled r u) ≡ decodeResult t o
+  unfolding leftAs leftBy decodedAs settled decodeResult cleared
+  result (refused n p) (Accepted consumed root used) e = let z : _≡_ {A = ℕ} 0 1 = cc in absurd (omega arith)
+  result (accepted k r) (Refused n p) e = let z : _≡_ {A = ℕ} 0 1 = cc in absurd (omega arith)
+  result (accepted k r) (Accepted consumed root used) e =
+      let bytes : consumed ≡ k = cc in
+      let left : _≡_ {A = Left} (record { root = root .0; used = used; words = u .rows }) (record { root = r .root; used = r .used; words = rowsIn (t .rows) (r .memory) }) = cc in
+      let root′ : root .0 ≡ r .root = ap (λ (l : Left). l .root) left in
+      let used′ : used ≡ r .used = ap (λ (l : Left). l .used) left in
+      let words′ : u .rows ≡ rowsIn (t .rows) (r .memory) = ap (λ (l : Left). l .words) left in
+      rw (bytes, root′, used′, words′, same-zeroed (t .stack) (u .stack) (same .stack), same-zeroed (t .marks) (u .marks) (same .marks), same-zeroed (t .registers) (u .registers) (same .registers)) refl
+  result (refused n′ p′) (Refused n p) e =
+      let number : n ≡ n′ = cc in
+      let place : p .0 ≡ p′ = cc in
+      rw (number, place, no-rows (t .rows), same-zeroed (t .rows) (u .rows) (same .rows), same-zeroed (t .stack) (u .stack) (same .stack), same-zeroed (t .marks) (u .marks) (same .marks), same-zeroed (t .registers) (u .registers) (same .registers)) refl
+
+-- the whole answer: rows and registers cleared, the run, and the tables settled
+module _ (message rows stack marks registers rows₁ registers₁ : List ℕ) (cleared-first : rows₁ ≡ zeroed rows) (emptied : registers₁ ≡ zeroed registers) where
+  pub decoded : length message ≤ messageBound → registerWords ≤ length registers → (u v : Tables) → SameLengths (tables rows₁ stack marks registers₁) u → (r : Decoded)
+      → leftAs r (u .rows) ≡ leftBy rows₁ (M.run rowValues (limitsOf (tables rows₁ stack marks registers₁)) message) → v ≡ settled r u
+      → decodedAs r v ≡ decodeAnswer message (tables rows stack marks registers)
+  decoded inBound h u v same r e f =
+      let t = tables rows stack marks registers in
+      let o = M.run rowValues (limitsOf t) message in
+      let kept : SameLengths t u = record {
+        rows = sym (length-zeroed rows) ∙ ap length (sym cleared-first) ∙ same .rows;
+        stack = same .stack;
+        marks = same .marks;
+        registers = sym (length-zeroed registers) ∙ ap length (sym emptied) ∙ same .registers;
+      } in
+      let left : leftAs r (u .rows) ≡ leftBy rows o = e ∙ rw (cleared-first, emptied, cleared-limits rows stack marks registers) (left-cleared rows o) in
+      rw (f, started message t inBound h) (result t u kept o r left)
+
+-- a table that was cleared is zero
+pub is-zeroed : (words old : List ℕ) → words ≡ zeroed old → words ≡ zeroed words
+is-zeroed words old e = e ∙ same-zeroed old words (sym (ap length e ∙ length-zeroed old))
+
+-- the tables, one by one, as they are settled
+module _ (r : Decoded) (rows stack marks registers : List ℕ) {stack′ marks′ registers′ : List ℕ} (es : stack′ ≡ zeroed stack) (em : marks′ ≡ zeroed marks) (er : registers′ ≡ zeroed registers) where
+  pub settled-refused : (n : ℕ) (p : Offset) → r ≡ Refused n p → {rows′ : List ℕ} → rows′ ≡ zeroed rows → tables rows′ stack′ marks′ registers′ ≡ settled r (tables rows stack marks registers)
+  unfolding settled
+  settled-refused n p e ew = rw (e, ew, es, em, er) refl
+
+  pub settled-accepted : (consumed : ℕ) (root : RowNumber) (used : ℕ) → r ≡ Accepted consumed root used → tables rows stack′ marks′ registers′ ≡ settled r (tables rows stack marks registers)
+  unfolding settled
+  settled-accepted consumed root used e = rw (e, es, em, er) refl

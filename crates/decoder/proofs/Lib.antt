@@ -1,0 +1,14 @@
+pub mod Limits
+pub mod Pops
+pub mod Steps
+pub mod Registers
+pub mod Tuples
+pub mod Spans
+pub mod Integers
+pub mod Binaries
+pub mod Classes
+pub mod White
+pub mod Turns
+pub mod Decodes
+pub mod Answered
+pub mod Loop

@@ -1,0 +1,94 @@
+-- What the limits of the tables make of a step, by the tests that the code makes.
+use Prim.Native.Nat.{ℕ, zero, suc, _+_, _≤_, _<_, min}
+use mathlib.Core.Path.{_≡_, refl, ap, sym, _∙_}
+use mathlib.Core.List.{List, [], _∷_, _++_}
+use native.Mathlib.Numerals.{add-one}
+use native.Mathlib.Omega.{arith}
+use lib.ListN.{length, set, drop}
+use borrow.Author.Tests.{lt-ltb, le-ltb}
+use Rattle.format.specs.Bound.{stackBound, markBound}
+use Rattle.format.specs.Machine.{Machine, Step, refuse, go, finish, bounded}
+use Rattle.format.specs.Rows.{Row, rowValues, rowRoom, rowWords, rowsOf}
+use Rattle.format.specs.Answer.{Tables, limitsOf, rowsIn}
+use Rattle.format.specs.declared.Offset.{Offset}
+use Rattle.table.specs.Words.{storedRows, lastFirst}
+use Rattle.decoder.specs.declared.state.State.{State}
+use Rattle.decoder.specs.declared.state.Answer.the-variants.{More, Refused}
+use Rattle.decoder.specs.Answers.{tables}
+use Rattle.decoder.specs.Held.{Ready, Turn, goes, ends, stops, registerIn, machineOf, turn, after, limited, withRow, made}
+use Rattle.table.proofs.Rows.{stored-after, pushed, length-lastFirst}
+
+-- a refusal, as the code answers it
+pub refusal : {x : Turn} (n : ℕ) (p : Offset) (t : Tables) → x ≡ stops n (p .0) → turn (Refused n p) t ≡ x
+unfolding turn
+refusal n p t e = sym e
+
+module _ (t : Tables) (s : State) where
+  -- an item's own refusal, and the end, whatever the limits
+  pub refused-step : (n p : ℕ) → limited t s (refuse n p) ≡ stops n p
+  unfolding limited after bounded
+  refused-step n p = refl
+
+  pub ended-step : (v : ℕ) → limited t s (finish v) ≡ ends v (t .rows)
+  unfolding limited after bounded
+  ended-step v = refl
+
+  module _ (k w : ℕ) (m : Machine rowValues) where
+    pub no-rows : rowRoom (t .rows) < s .next .0 + w → limited t s (go k w m) ≡ stops 12 (s .at .0)
+    unfolding limited after bounded limitsOf
+    no-rows h = simp (lt-ltb _ _ h)
+
+    pub no-stack : s .next .0 + w ≤ rowRoom (t .rows) → min (length (t .stack)) stackBound < length (m .stack) → limited t s (go k w m) ≡ stops 13 (s .at .0)
+    unfolding limited after bounded limitsOf
+    no-stack h g = simp (le-ltb _ _ h, lt-ltb _ _ g)
+
+    pub no-marks : s .next .0 + w ≤ rowRoom (t .rows) → length (m .stack) ≤ min (length (t .stack)) stackBound → min (length (t .marks)) markBound < length (m .marks)
+        → limited t s (go k w m) ≡ stops 14 (s .at .0)
+    unfolding limited after bounded limitsOf
+    no-marks h g f = simp (le-ltb _ _ h, le-ltb _ _ g, lt-ltb _ _ f)
+
+    pub room-for : s .next .0 + w ≤ rowRoom (t .rows) → length (m .stack) ≤ min (length (t .stack)) stackBound → length (m .marks) ≤ min (length (t .marks)) markBound
+        → limited t s (go k w m) ≡ goes (suc (s .at .0) + k) (s .next .0 + w) (m .stack) (m .marks) (m .registers) (rowsIn (t .rows) (m .memory))
+    unfolding limited after bounded limitsOf
+    room-for h g f = simp (le-ltb _ _ h, le-ltb _ _ g, le-ltb _ _ f)
+
+pub length-rowsOf : (n : ℕ) (words : List ℕ) → length (rowsOf n words) ≡ n
+unfolding rowsOf
+length-rowsOf zero words = refl
+length-rowsOf (suc n) words = ap suc (length-rowsOf n (drop rowWords words))
+
+-- rows stored where the next ones belong
+pub stored : (t : Tables) (s : State) → Ready t s → (xs : List Row) → s .next .0 + length xs ≤ rowRoom (t .rows)
+    → storedRows (t .rows) (s .next .0) xs ≡ rowsIn (t .rows) (machineOf t s .memory ++ xs)
+unfolding machineOf
+stored t s h xs g =
+    let mem : List Row = rowsOf (s .next .0) (t .rows) in
+    let e : length mem ≡ s .next .0 = length-rowsOf (s .next .0) (t .rows) in
+    ap (λ (w : List ℕ). storedRows w (s .next .0) xs) (h .rows)
+    ∙ ap (λ (n : ℕ). storedRows (rowsIn (t .rows) mem) n xs) (sym e)
+    ∙ stored-after (t .rows) mem xs (omega arith)
+
+-- one row more over the values below a depth
+module _ (rows stack marks registers : List ℕ) (s : State) (below k : ℕ) (x : Row) where
+  pub made-12 : rowRoom rows ≤ s .next .0 → made (tables rows stack marks registers) s below k x ≡ stops 12 (s .at .0)
+  unfolding made
+  made-12 h = no-rows (tables rows stack marks registers) s k 1 _ (omega arith)
+
+  pub made-13 : s .next .0 < rowRoom rows → min (length stack) stackBound ≤ below → made (tables rows stack marks registers) s below k x ≡ stops 13 (s .at .0)
+  unfolding made withRow
+  made-13 h g = no-stack (tables rows stack marks registers) s k 1 _ (omega arith) (omega (arith, length-lastFirst stack below))
+
+  pub made-goes : Ready (tables rows stack marks registers) s → s .next .0 < rowRoom rows → below < min (length stack) stackBound → (end : ℕ) → end ≡ suc (s .at .0) + k
+      → turn (More (record { at = record { 0 = end }; next = record { 0 = s .next .0 + 1 }; depth = record { 0 = below + 1 }; marks = s .marks }))
+      (tables (storedRows rows (s .next .0) (x ∷ [])) (set stack below (s .next .0)) marks registers)
+      ≡ made (tables rows stack marks registers) s below k x
+  unfolding made withRow turn machineOf
+  made-goes h g f end e =
+      let t = tables rows stack marks registers in
+      let m = withRow x (lastFirst stack below) (machineOf t s) in
+      let deep : length (lastFirst stack below) ≡ below = length-lastFirst stack below in
+      let noted : length (lastFirst marks (s .marks)) ≡ s .marks = length-lastFirst marks (s .marks) in
+      let room : limited t s (go k 1 m) ≡ _ = room-for t s k 1 m (omega arith) (omega arith) (omega (arith, h .noted)) in
+      let top : lastFirst (set stack below (s .next .0)) (below + 1) ≡ length (rowsOf (s .next .0) rows) ∷ lastFirst stack below =
+      rw (add-one, length-rowsOf) (pushed stack below (s .next .0) (omega arith)) in
+      rw (e, top, stored t s h (x ∷ []) (omega arith)) (sym room)

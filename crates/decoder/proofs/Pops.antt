@@ -1,0 +1,37 @@
+-- Pops from the stack that the table holds, and the base that the marks give.
+use Prim.Native.Nat.{ℕ, zero, suc, _-_, _≤_, _<_}
+use mathlib.Core.Path.{_≡_, refl}
+use mathlib.Core.List.{List}
+use native.Mathlib.Nat.{not-suc-le-zero}
+use native.Mathlib.Numerals.{sub-one}
+use native.Mathlib.Omega.{arith}
+use lib.ListN.{getD}
+use borrow.Author.Tests.{lt-ltb, le-ltb}
+use Rattle.format.specs.Machine as M
+use Rattle.format.specs.Machine.{Step, refuse, base}
+use Rattle.format.specs.Rows.{rowValues}
+use Rattle.table.specs.Words.{lastFirst}
+use Rattle.table.proofs.Rows.{length-lastFirst}
+
+module _ (at : ℕ) (marks words : List ℕ) (next : ℕ → List ℕ → Step rowValues) where
+  -- nothing above the base
+  pub pop-few : (depth : ℕ) → depth ≤ base marks → M.pop rowValues at marks (lastFirst words depth) next ≡ refuse 6 at
+  unfolding M.pop lastFirst
+  pop-few zero h = refl
+  pop-few (suc d) h = rw (length-lastFirst words d, lt-ltb d (base marks) (omega arith)) refl
+
+  -- the top
+  pub pop-top : (depth : ℕ) → base marks < depth → M.pop rowValues at marks (lastFirst words depth) next ≡ next (getD words (depth - 1) 0) (lastFirst words (depth - 1))
+  unfolding M.pop lastFirst
+  pop-top zero h = absurd (not-suc-le-zero h)
+  pop-top (suc d) h = rw (length-lastFirst words d, le-ltb d (base marks) (omega arith), sub-one) refl
+
+-- the base: 0 with no mark noted, else the mark noted last
+pub base-none : (marks : List ℕ) (noted : ℕ) → noted ≡ 0 → 0 ≡ base (lastFirst marks noted)
+unfolding base lastFirst
+base-none marks noted e = rw e refl
+
+pub base-last : (marks : List ℕ) (noted : ℕ) → ¬ (noted ≡ 0) → getD marks (noted - 1) 0 ≡ base (lastFirst marks noted)
+unfolding base lastFirst
+base-last marks zero h = absurd (h refl)
+base-last marks (suc n) h = rw sub-one refl

@@ -1,0 +1,76 @@
+-- `decoder::decode` meets its contract: refusals 1 and 2 touch nothing; else the run on cleared tables, and the tables settled.
+use mathlib.Core.Path.{_≡_, sym, _∙_}
+use denote.Ref.{now}
+use Rattle.format.specs.Answer.{Tables}
+use Rattle.format.proofs.Unchanged.{SameLengths}
+use Rattle.decoder.specs.Answers.{tables}
+use Rattle.decoder.proofs.Decodes.{over, short, is-zeroed, decoded}
+use borrow.Author.Needs.{needs}
+use Rattle.decoder.proofs.decode.Statement.{statement}
+use Rattle.decoder.proofs.decode.Tie as tie
+
+-- from the run back to the clearings and the tests
+abbrev ready : (c : tie.After-run) → tie.After-clear2
+ready c = c .before .before .before .before .before .before .before
+
+abbrev first : (c : tie.After-clear2) → tie.After-clear
+first c = c .before .before .before .before
+
+abbrev passed : (c : tie.After-clear) → tie.Else2
+passed c = c .before .before
+
+returns : tie.Need-returns
+returns c = over _ _ (c .if1 .taken)
+
+returns-2 : tie.Need-returns-2
+returns-2 c = short _ _ (c .before .if1 .left) (c .if2 .taken)
+
+clear-requires : tie.Need-clear-requires
+clear-requires c κs = search needs
+
+clear-requires-2 : tie.Need-clear-requires-2
+clear-requires-2 c κs = search needs
+
+run-requires : tie.Need-run-requires
+run-requires c κs =
+    let at = c .before .before .before .before .before .before in
+    let p = passed (first at) in
+    ((p .before .if1 .left, search needs), (is-zeroed _ _ (first at .clear .ensures), is-zeroed _ _ (at .clear2 .ensures)))
+
+settle-requires : tie.Need-settle-requires
+settle-requires c κs = search needs
+
+same-length : tie.Need-same-length
+same-length c = search needs
+
+same-length-2 : tie.Need-same-length-2
+same-length-2 c = search needs
+
+same-length-3 : tie.Need-same-length-3
+same-length-3 c = search needs
+
+same-length-4 : tie.Need-same-length-4
+same-length-4 c = search needs
+
+returns-3 : tie.Need-returns-3
+returns-3 c =
+    let at = c .before .before .before .before .before .before .before .before .before .before .before .before .before .before .before .before .before .before .before .before .before in
+    let r = ready at in
+    let p = passed (first r) in
+    decoded _ _ _ _ _ _ _ (first r .clear .ensures) (r .clear2 .ensures) (p .before .if1 .left) (p .if2 .left) _ _ (record { rows = sym (at .run .kept .1 .0); stack = sym (at .run .kept .1 .1 .0); marks = sym (at .run .kept .1 .1 .1 .0); registers = sym (at .run .kept .1 .1 .1 .1 .0) }) _ (at .run .ensures) (c .before .before .before .before .before .before .before .before .settle .ensures)
+
+pub decode-spec : {M : Type 1} → statement M
+decode-spec =
+    tie.close
+    (tie.spec
+    returns
+    returns-2
+    clear-requires
+    clear-requires-2
+    run-requires
+    settle-requires
+    same-length
+    same-length-2
+    same-length-3
+    same-length-4
+    returns-3)

@@ -1,0 +1,192 @@
+-- `decoder::run::run` meets its contract: the run from where the loop stands is the whole run.
+use Prim.Native.Nat.{suc, _-_, _≤_, _<_}
+use mathlib.Core.Path.{_≡_, sym, _∙_}
+use mathlib.Core.List.{_∷_}
+use native.Mathlib.Omega.{arith}
+use lib.ListN.{length, drop}
+use denote.Ref.{now}
+use borrow.Author.Needs.{needs}
+use Rattle.format.specs.Answer.{Tables}
+use Rattle.format.proofs.Unchanged.{SameLengths}
+use Rattle.lexer.specs.White.{nextFrom}
+use Rattle.lexer.specs.declared.white.Next.the-variants.{Byte}
+use Rattle.decoder.specs.declared.state.State.{State}
+use Rattle.decoder.specs.declared.state.Answer.the-variants.{More}
+use Rattle.decoder.specs.Answers.{tables}
+use Rattle.decoder.proofs.Loop.{Going, chain, placed, starts, over, byte-inside, byte-here, at-byte, goes-on, done, stopped}
+use Rattle.decoder.proofs.run.run.Statement.{statement}
+use Rattle.decoder.proofs.run.run.Tie as tie
+
+abbrev Inv-loop : tie.InvT-loop
+Inv-loop message rows₀ stack₀ marks₀ registers₀ s₀ rows stack marks registers s = Going message (tables rows₀ stack₀ marks₀ registers₀) (tables rows stack marks registers) s
+
+abbrev μ-loop : tie.MeasureT-loop
+μ-loop message rows₀ stack₀ marks₀ registers₀ s₀ rows stack marks registers s = length message - s .at .0
+
+-- from the step back to where the byte was found, to the loop's head, and to the call
+abbrev found-at : (c : tie.After-step Inv-loop μ-loop) → tie.After-q Inv-loop μ-loop
+found-at c = c .before .before .before .before .before .before .before .before
+
+abbrev head : (c : tie.After-q Inv-loop μ-loop) → tie.At-loop Inv-loop μ-loop
+head c = c .before .before .before .before
+
+abbrev call : (c : tie.At-loop Inv-loop μ-loop) → tie.Start Inv-loop μ-loop
+call c = c .before .before .before .before .before .before
+
+-- the tables lent, those at the loop's head, and those that the step leaves; the state at the item's first byte
+abbrev lent : (c : tie.At-loop Inv-loop μ-loop) → Tables
+lent c = tables (now (call c .args .rows)) (now (call c .args .stack)) (now (call c .args .marks)) (now (call c .args .registers))
+
+abbrev held : (c : tie.At-loop Inv-loop μ-loop) → Tables
+held c = tables (c .loop .rows) (c .loop .stack) (c .loop .marks) (c .loop .registers)
+
+abbrev left : (c : tie.After-step Inv-loop μ-loop) → Tables
+left c = tables (c .step .last .1 .0) (c .step .last .1 .1 .0) (c .step .last .1 .1 .1 .0) (c .step .last .1 .1 .1 .1 .0)
+
+abbrev here : (c : tie.After-q Inv-loop μ-loop) → State
+here c = placed (head c .loop .s) (c .q .given .0 .1 .0)
+
+-- what is known at that byte
+found : (c : tie.After-q Inv-loop μ-loop) → nextFrom (head c .loop .s .at .0) (drop (head c .loop .s .at .0) (now (call (head c) .args .message))) ≡ Byte (c .q .given .0 .0) (c .q .given .0 .1 .0)
+found c = sym (c .before .before .next-byte .ensures) ∙ c .q .given .1
+
+inside : (c : tie.After-q Inv-loop μ-loop) → (head c .loop .s .at .0 ≤ here c .at .0) × (here c .at .0 < length (now (call (head c) .args .message)))
+inside c = byte-inside _ _ _ _ (head c .loop .inv) _ _ (found c)
+
+going : (c : tie.After-q Inv-loop μ-loop) → Going (now (call (head c) .args .message)) (lent (head c)) (held (head c)) (here c)
+going c = at-byte _ _ _ _ (head c .loop .inv) _ _ (found c)
+
+first : (c : tie.After-q Inv-loop μ-loop) → drop (here c .at .0) (now (call (head c) .args .message)) ≡ c .q .given .0 .0 ∷ drop (suc (here c .at .0)) (now (call (head c) .args .message))
+first c = byte-here _ _ _ _ (head c .loop .inv) _ _ (found c)
+
+-- no table has another length
+kept : (c : tie.After-step Inv-loop μ-loop) → SameLengths (held (head (found-at c))) (left c)
+kept c = record { rows = sym (c .step .kept .1 .0); stack = sym (c .step .kept .1 .1 .0); marks = sym (c .step .kept .1 .1 .1 .0); registers = sym (c .step .kept .1 .1 .1 .1 .0) }
+
+all-kept : (c : tie.After-step Inv-loop μ-loop) → SameLengths (lent (head (found-at c))) (left c)
+all-kept c = chain (head (found-at c) .loop .inv .same) (kept c)
+
+-- the step goes on to the state s
+more : (c : tie.After-step Inv-loop μ-loop) (s : State) → c .step .result ≡ More s → Going (now (call (head (found-at c)) .args .message)) (lent (head (found-at c))) (left c) s × (here (found-at c) .at .0 < s .at .0)
+more c s e = goes-on _ _ _ _ (kept c) _ _ (going (found-at c)) (first (found-at c)) s (rw e at (c .step .ensures))
+
+loop-holds : tie.Need-loop-holds Inv-loop μ-loop
+loop-holds c = starts _ _ (c .before .before .before .before .before .pre .1 .0) (c .before .before .before .before .before .pre .1 .1) (c .before .before .before .before .before .pre .0 .1)
+
+next-byte-requires : tie.Need-next-byte-requires Inv-loop μ-loop
+next-byte-requires c κs = search needs
+
+enum-known-q : tie.Need-enum-known-q Inv-loop μ-loop
+enum-known-q c = search needs
+
+enum-told : tie.Need-enum-told Inv-loop μ-loop
+enum-told c = search needs
+
+same-length : tie.Need-same-length Inv-loop μ-loop
+same-length c = sym (c .before .before .before .before .loop .inv .same .rows)
+
+same-length-2 : tie.Need-same-length-2 Inv-loop μ-loop
+same-length-2 c = sym (c .before .before .before .before .loop .inv .same .stack)
+
+same-length-3 : tie.Need-same-length-3 Inv-loop μ-loop
+same-length-3 c = sym (c .before .before .before .before .loop .inv .same .marks)
+
+same-length-4 : tie.Need-same-length-4 Inv-loop μ-loop
+same-length-4 c = sym (c .before .before .before .before .loop .inv .same .registers)
+
+returns : tie.Need-returns Inv-loop μ-loop
+returns c = over _ _ _ _ (c .before .before .before .before .loop .inv) (sym (c .before .before .next-byte .ensures) ∙ c .enum-told .given .1) _
+
+step-requires : tie.Need-step-requires Inv-loop μ-loop
+step-requires c κs =
+    let e = c .before .before .before .before .before .before .before in
+    ((inside e .1, call (head e) .pre .0 .0), going e .before .ready)
+
+enum-known-a : tie.Need-enum-known-a Inv-loop μ-loop
+enum-known-a c = search needs
+
+loop-less : tie.Need-loop-less Inv-loop μ-loop
+loop-less c =
+    let e = c .before .before .before .before .before .before .before .before .before .before .before in
+    omega (arith, inside (found-at e), more e _ (c .before .a .given .1) .1)
+
+loop-again : tie.Need-loop-again Inv-loop μ-loop
+loop-again c = more (c .before .before .before .before .before .before .before .before .before .before .before) _ (c .before .a .given .1) .0
+
+enum-known-a-2 : tie.Need-enum-known-a-2 Inv-loop μ-loop
+enum-known-a-2 c = search needs
+
+add-t32 : tie.Need-add-t32 Inv-loop μ-loop
+add-t32 c =
+    let e = c .before .before .before .before .before .before .before .before .before .before .before .before in
+    omega (arith, inside (found-at e) .1, call (head (found-at e)) .pre .0 .0)
+
+same-length-5 : tie.Need-same-length-5 Inv-loop μ-loop
+same-length-5 c = sym (all-kept (c .before .before .before .before .before .before .before .before .before .before .before .before) .rows)
+
+same-length-6 : tie.Need-same-length-6 Inv-loop μ-loop
+same-length-6 c = sym (all-kept (c .before .before .before .before .before .before .before .before .before .before .before .before) .stack)
+
+same-length-7 : tie.Need-same-length-7 Inv-loop μ-loop
+same-length-7 c = sym (all-kept (c .before .before .before .before .before .before .before .before .before .before .before .before) .marks)
+
+same-length-8 : tie.Need-same-length-8 Inv-loop μ-loop
+same-length-8 c = sym (all-kept (c .before .before .before .before .before .before .before .before .before .before .before .before) .registers)
+
+returns-2 : tie.Need-returns-2 Inv-loop μ-loop
+returns-2 c =
+    let e = c .before .before .before .before .before .before .before .before .before .before .before .before in
+    done _ _ _ _ (kept e) _ _ (going (found-at e)) (first (found-at e)) _ (rw (c .before .before .a2 .given .1) at (e .step .ensures))
+
+enum-known-a-3 : tie.Need-enum-known-a-3 Inv-loop μ-loop
+enum-known-a-3 c = search needs
+
+same-length-9 : tie.Need-same-length-9 Inv-loop μ-loop
+same-length-9 c = sym (all-kept (c .before .before .before .before .before .before .before .before .before .before .before) .rows)
+
+same-length-10 : tie.Need-same-length-10 Inv-loop μ-loop
+same-length-10 c = sym (all-kept (c .before .before .before .before .before .before .before .before .before .before .before) .stack)
+
+same-length-11 : tie.Need-same-length-11 Inv-loop μ-loop
+same-length-11 c = sym (all-kept (c .before .before .before .before .before .before .before .before .before .before .before) .marks)
+
+same-length-12 : tie.Need-same-length-12 Inv-loop μ-loop
+same-length-12 c = sym (all-kept (c .before .before .before .before .before .before .before .before .before .before .before) .registers)
+
+returns-3 : tie.Need-returns-3 Inv-loop μ-loop
+returns-3 c =
+    let e = c .before .before .before .before .before .before .before .before .before .before .before in
+    stopped _ _ _ _ (kept e) _ _ (going (found-at e)) (first (found-at e)) _ _ (rw (c .before .a3 .given .1) at (e .step .ensures)) _
+
+pub run-spec : {M : Type 1} → statement M
+run-spec =
+    tie.close
+    (tie.spec
+    Inv-loop
+    μ-loop
+    loop-holds
+    next-byte-requires
+    enum-known-q
+    enum-told
+    same-length
+    same-length-2
+    same-length-3
+    same-length-4
+    returns
+    step-requires
+    enum-known-a
+    loop-less
+    loop-again
+    enum-known-a-2
+    add-t32
+    same-length-5
+    same-length-6
+    same-length-7
+    same-length-8
+    returns-2
+    enum-known-a-3
+    same-length-9
+    same-length-10
+    same-length-11
+    same-length-12
+    returns-3)

@@ -1,0 +1,81 @@
+-- `decoder::settle` meets its contract: each table is cleared, the rows only after a refusal.
+use Rattle.decoder.proofs.Decodes.{settled-refused, settled-accepted}
+use borrow.Author.Needs.{needs}
+use Rattle.decoder.proofs.settle.Statement.{statement}
+use Rattle.decoder.proofs.settle.Tie as tie
+
+-- from each clearing back to the one before
+abbrev second : (c : tie.After-clear3) → tie.After-clear2
+second c = c .before .before .before .before
+
+abbrev first : (c : tie.After-clear2) → tie.After-clear
+first c = c .before .before .before .before
+
+clear-requires : tie.Need-clear-requires
+clear-requires c κs = search needs
+
+clear-requires-2 : tie.Need-clear-requires-2
+clear-requires-2 c κs = search needs
+
+clear-requires-3 : tie.Need-clear-requires-3
+clear-requires-3 c κs = search needs
+
+enum-told : tie.Need-enum-told
+enum-told c = search needs
+
+clear-requires-4 : tie.Need-clear-requires-4
+clear-requires-4 c κs = search needs
+
+enum-told-2 : tie.Need-enum-told-2
+enum-told-2 c = search needs
+
+same-length : tie.Need-same-length
+same-length c = search needs
+
+same-length-2 : tie.Need-same-length-2
+same-length-2 c = search needs
+
+same-length-3 : tie.Need-same-length-3
+same-length-3 c = search needs
+
+same-length-4 : tie.Need-same-length-4
+same-length-4 c = search needs
+
+returns : tie.Need-returns
+returns c =
+    let at = c .before .before .before .before .before .before .before .before in
+    settled-refused _ _ _ _ _ (first (second at) .clear .ensures) (second at .clear2 .ensures) (at .clear3 .ensures) _ _ (c .before .before .before .before .enum-told .given .1) (c .before .before .clear4 .ensures)
+
+same-length-5 : tie.Need-same-length-5
+same-length-5 c = search needs
+
+same-length-6 : tie.Need-same-length-6
+same-length-6 c = search needs
+
+same-length-7 : tie.Need-same-length-7
+same-length-7 c = search needs
+
+returns-2 : tie.Need-returns-2
+returns-2 c =
+    let at = c .before .before .before .before in
+    settled-accepted _ _ _ _ _ (first (second at) .clear .ensures) (second at .clear2 .ensures) (at .clear3 .ensures) _ _ _ (c .enum-told2 .given .1)
+
+pub settle-spec : {M : Type 1} → statement M
+settle-spec =
+    tie.close
+    (tie.spec
+    clear-requires
+    clear-requires-2
+    clear-requires-3
+    enum-told
+    clear-requires-4
+    enum-told-2
+    same-length
+    same-length-2
+    same-length-3
+    same-length-4
+    returns
+    same-length-5
+    same-length-6
+    same-length-7
+    returns-2)

@@ -1,0 +1,60 @@
+//! The decoder: from a message's bytes to a row table, in lent memory alone.
+ghost use mathlib.Core.Path.{_≡_};
+ghost use Rattle.format.specs.Answer.{decodeAnswer};
+ghost use Rattle.decoder.specs.Answers.{decodedAs, tables};
+ghost use Rattle.decoder.specs.Held.{settled};
+use format::Offset;
+use format::Row;
+use format::bound;
+use format::refusal;
+
+mod items;
+mod run;
+mod state;
+
+// Bytes consumed, root row and rows used; or a refusal's number and place.
+pub enum Decoded {
+    Accepted(usize, Row, u32),
+    Refused(u8, Offset),
+}
+
+// Clears the working memory, and on a refusal the rows too.
+fn settle(
+    rows: &mut [u32],
+    stack: &mut [u32],
+    marks: &mut [u32],
+    registers: &mut [u32],
+    answer: Decoded,
+)
+    ensures { λ r. ⌜ tables (now (rows .exit)) (now (stack .exit)) (now (marks .exit)) (now (registers .exit)) ≡ settled answer (tables (now (rows .entry)) (now (stack .entry)) (now (marks .entry)) (now (registers .entry))) ⌝ }
+{
+    table::clear(stack);
+    table::clear(marks);
+    table::clear(registers);
+    if let Decoded::Refused(_, _) = answer {
+        table::clear(rows);
+    }
+}
+
+// Decodes a message into `rows`. The other tables are working memory: the stack, the marks (01's noted depths), the registers.
+pub fn decode(
+    message: &[u8],
+    rows: &mut [u32],
+    stack: &mut [u32],
+    marks: &mut [u32],
+    registers: &mut [u32],
+) -> Decoded
+    ensures { λ r. ⌜ decodedAs r (tables (now (rows .exit)) (now (stack .exit)) (now (marks .exit)) (now (registers .exit))) ≡ decodeAnswer (now (message .entry)) (tables (now (rows .entry)) (now (stack .entry)) (now (marks .entry)) (now (registers .entry))) ⌝ }
+{
+    if bound::MESSAGE_BYTES < message.len() {
+        return Decoded::Refused(refusal::OVER_BOUND, Offset(0));
+    }
+    if registers.len() < bound::REGISTER_WORDS {
+        return Decoded::Refused(refusal::SHORT_TABLE, Offset(0));
+    }
+    table::clear(rows);
+    table::clear(registers);
+    let answer = run::run(message, rows, stack, marks, registers);
+    settle(rows, stack, marks, registers, answer);
+    answer
+}

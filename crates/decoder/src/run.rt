@@ -1,0 +1,140 @@
+//! The machine's step, which dispatches on the class of an item's first byte, and the run.
+ghost use mathlib.Core.Path.{_≡_};
+ghost use Prim.Native.Nat.{_+_, _≤_, _<_};
+ghost use lib.ListN.{length, drop};
+ghost use Rattle.format.specs.Answer.{limitsOf, zeroed};
+ghost use Rattle.format.specs.Bound.{messageBound, registerWords};
+ghost use Rattle.format.specs.Lex.{lex};
+ghost use Rattle.format.specs.Machine as M;
+ghost use Rattle.format.specs.Rows.{rowValues};
+ghost use Rattle.decoder.specs.Answers.{tables};
+ghost use Rattle.decoder.specs.Held.{Ready, turn, taken, leftAs, leftBy};
+use crate::Decoded;
+use crate::items;
+use crate::state::Answer;
+use crate::state::State;
+use format::Depth;
+use format::Offset;
+use format::Row;
+use format::class;
+use format::kind;
+use format::refusal;
+use lexer::integer::Begun;
+use lexer::white;
+use lexer::white::Next;
+use table::RowWords;
+
+const ATOM_QUOTE: u8 = 39;
+
+const STRING_QUOTE: u8 = 34;
+
+// One item, whose first byte is b.
+fn step(
+    message: &[u8],
+    rows: &mut [u32],
+    stack: &mut [u32],
+    marks: &mut [u32],
+    registers: &mut [u32],
+    s: State,
+    b: u8,
+) -> Answer
+    requires { ⌜ (s .at .0 < length (now message)) × (length (now message) ≤ messageBound) ⌝ }
+    requires { ⌜ Ready (tables (now rows) (now stack) (now marks) (now registers)) s ⌝ }
+    ensures { λ r. ⌜ turn r (tables (now (rows .exit)) (now (stack .exit)) (now (marks .exit)) (now (registers .exit))) ≡ taken (tables (now (rows .entry)) (now (stack .entry)) (now (marks .entry)) (now (registers .entry))) s (drop (s .at .0 + 1) (now (message .entry))) (lex b (drop (s .at .0 + 1) (now (message .entry)))) ⌝ }
+{
+    let at = s.at;
+    let p = at.0;
+    let next = s.next;
+    let depth = s.depth;
+    let k = class::class_of(b);
+    match k {
+        class::WHITE => Answer::More(State {
+            at: Offset(p + 1),
+            next,
+            depth,
+            marks: s.marks,
+        }),
+        class::DIGIT => items::integer_item(
+            message,
+            rows,
+            stack,
+            s,
+            Begun::Digits(false, (b - class::ZERO) as u64),
+        ),
+        class::MINUS => items::integer_item(message, rows, stack, s, Begun::Minus),
+        class::ATOM_QUOTE => items::quoted_item(message, rows, stack, s, kind::ATOM, ATOM_QUOTE),
+        class::STRING_QUOTE => {
+            items::quoted_item(message, rows, stack, s, kind::STRING, STRING_QUOTE)
+        }
+        class::TAG_QUOTE => items::tag_item(message, rows, stack, marks, s),
+        class::COMMENT_QUOTE => items::comment_item(message, s),
+        class::LEFT_BRACE => items::open_item(marks, s),
+        class::RIGHT_BRACE => items::close_item(rows, stack, marks, s),
+        class::TILDE => items::binary_item(message, rows, stack, marks, s),
+        class::HASH => items::push_value(
+            rows,
+            stack,
+            s,
+            depth,
+            Offset(p + 1),
+            RowWords {
+                kind: kind::NIL,
+                first: 0,
+                second: 0,
+                third: 0,
+            },
+        ),
+        class::AMPERSAND => items::cons_item(rows, stack, marks, s),
+        class::DOLLAR => items::end_item(stack, s),
+        class::GREATER => items::store_item(message, stack, marks, registers, s),
+        class::REGISTER => items::push_item(stack, registers, s, b),
+        _ => Answer::Refused(refusal::STRAY, at),
+    }
+}
+
+// Items from left to right until the message ends or is refused.
+pub(crate) fn run(
+    message: &[u8],
+    rows: &mut [u32],
+    stack: &mut [u32],
+    marks: &mut [u32],
+    registers: &mut [u32],
+) -> Decoded
+    requires { ⌜ (length (now message) ≤ messageBound) × (registerWords ≤ length (now registers)) ⌝ }
+    requires { ⌜ (now rows ≡ zeroed (now rows)) × (now registers ≡ zeroed (now registers)) ⌝ }
+    ensures { λ r. ⌜ leftAs r (now (rows .exit)) ≡ leftBy (now (rows .entry)) (M.run rowValues (limitsOf (tables (now (rows .entry)) (now (stack .entry)) (now (marks .entry)) (now (registers .entry)))) (now (message .entry))) ⌝ }
+{
+    let mut s = State {
+        at: Offset(0),
+        next: Row(0),
+        depth: Depth(0),
+        marks: 0,
+    };
+    loop {
+        let from = s.at;
+        let q = white::next_byte(message, from);
+        let Next::Byte(b, at) = q else {
+            return Decoded::Refused(refusal::CUT, Offset(message.len()));
+        };
+        let next = s.next;
+        let depth = s.depth;
+        let here = State {
+            at,
+            next,
+            depth,
+            marks: s.marks,
+        };
+        let a = step(message, rows, stack, marks, registers, here, b);
+        match a {
+            Answer::More(after) => {
+                s = after;
+            }
+            Answer::Done(root) => {
+                return Decoded::Accepted(at.0 + 1, root, next.0);
+            }
+            Answer::Refused(number, place) => {
+                return Decoded::Refused(number, place);
+            }
+        }
+    }
+}
