@@ -1,0 +1,3 @@
+-- The demands as statements over what the functions answer and the tables that they leave, one file for each demand.
+pub mod Demand1
+pub mod Demand2
