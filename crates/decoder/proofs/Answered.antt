@@ -18,11 +18,11 @@ use Rattle.lexer.specs.declared.register.Register.the-variants as Register
 use Rattle.lexer.proofs.integer.Integer as I
 use Rattle.lexer.proofs.quoted.Quoted as Q
 use Rattle.lexer.proofs.register.Register as R
-use Rattle.decoder.specs.declared.items.Count.{Count}
-use Rattle.decoder.specs.declared.items.Count.the-variants.{Of, NoInteger, Negative}
+use Rattle.decoder.specs.declared.binary.Count.{Count}
+use Rattle.decoder.specs.declared.binary.Count.the-variants.{Of, NoInteger, Negative}
 use Rattle.decoder.specs.declared.state.Answer.the-variants.{Refused}
 use Rattle.decoder.specs.Readers.{unclosedAs}
-use Rattle.decoder.proofs.items.Count as C
+use Rattle.decoder.proofs.binary.Count as C
 use Rattle.decoder.proofs.Spans.{closed-inside}
 
 -- the bytes after an item's first reach to the slice's end

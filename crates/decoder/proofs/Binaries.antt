@@ -20,7 +20,7 @@ use Rattle.format.specs.Rows.{Row, row, rowValues, rowAt, rowsOf, rowRoom, rowI
 use Rattle.format.specs.Answer.{Tables, rowsIn}
 use Rattle.table.specs.Words.{rowIn, lastFirst}
 use Rattle.table.proofs.Rows.{row-in}
-use Rattle.decoder.specs.declared.items.Count.the-variants.{Of, NoInteger, Negative}
+use Rattle.decoder.specs.declared.binary.Count.the-variants.{Of, NoInteger, Negative}
 use Rattle.decoder.specs.declared.state.State.{State}
 use Rattle.decoder.specs.Answers.{tables}
 use Rattle.decoder.specs.Held.{Ready, Turn, stops, machineOf, turn, limited, taken, withRow, made}

@@ -13,8 +13,8 @@ use Rattle.lexer.specs.declared.integer.Integer.{Integer}
 use Rattle.lexer.specs.declared.integer.Integer.the-variants as Integer
 use Rattle.lexer.specs.declared.quoted.Quoted.{Quoted}
 use Rattle.lexer.specs.declared.quoted.Quoted.the-variants as Quoted
-use Rattle.decoder.specs.declared.items.Count.{Count}
-use Rattle.decoder.specs.declared.items.Count.the-variants.{Of, NoInteger, Negative}
+use Rattle.decoder.specs.declared.binary.Count.{Count}
+use Rattle.decoder.specs.declared.binary.Count.the-variants.{Of, NoInteger, Negative}
 use Rattle.decoder.specs.declared.state.Answer.{Answer}
 use Rattle.decoder.specs.declared.state.Answer.the-variants.{Refused}
 

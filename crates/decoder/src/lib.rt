@@ -8,9 +8,15 @@ use format::Row;
 use format::bound;
 use format::refusal;
 
-mod items;
+mod binary;
+mod list;
+mod number;
+mod register;
 mod run;
 mod state;
+mod text;
+mod tuple;
+mod value;
 
 // Bytes consumed, root row and rows used; or a refusal's number and place.
 pub enum Decoded {

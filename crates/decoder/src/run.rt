@@ -1,18 +1,26 @@
 //! The machine's step, which dispatches on the class of an item's first byte, and the run.
+ghost use mathlib.Core.List.{List};
 ghost use mathlib.Core.Path.{_≡_};
-ghost use Prim.Native.Nat.{_+_, _≤_, _<_};
+ghost use Prim.Native.Nat.{ℕ, _+_, _≤_, _<_};
 ghost use lib.ListN.{length, drop};
 ghost use Rattle.format.specs.Answer.{limitsOf, zeroed};
 ghost use Rattle.format.specs.Bound.{messageBound, registerWords};
-ghost use Rattle.format.specs.Lex.{lex};
+ghost use Rattle.format.specs.Lex.{lex, endItem};
 ghost use Rattle.format.specs.Machine as M;
 ghost use Rattle.format.specs.Rows.{rowValues};
 ghost use Rattle.decoder.specs.Answers.{tables};
 ghost use Rattle.decoder.specs.Held.{Ready, turn, taken, leftAs, leftBy};
 use crate::Decoded;
-use crate::items;
+use crate::binary;
+use crate::list;
+use crate::number;
+use crate::register;
+use crate::state;
 use crate::state::Answer;
 use crate::state::State;
+use crate::text;
+use crate::tuple;
+use crate::value;
 use format::Depth;
 use format::Offset;
 use format::Row;
@@ -27,6 +35,22 @@ use table::RowWords;
 const ATOM_QUOTE: u8 = 39;
 
 const STRING_QUOTE: u8 = 34;
+
+// `$`: the one value, with no mark noted.
+fn end_item(stack: &[u32], s: State) -> Answer
+    requires { ⌜ s .depth .0 ≤ length (now stack) ⌝ }
+    ensures { λ r. ⌜ ((rows marks registers rest : List ℕ) → turn r (tables rows (now (stack .entry)) marks registers) ≡ taken (tables rows (now (stack .entry)) marks registers) s rest endItem) ⌝ }
+{
+    let at = s.at;
+    let depth = s.depth;
+    if s.marks != 0 {
+        return Answer::Refused(refusal::MARKED, at);
+    }
+    if depth.0 != 1 {
+        return Answer::Refused(refusal::DEPTH, at);
+    }
+    Answer::Done(state::top(stack, depth))
+}
 
 // One item, whose first byte is b.
 fn step(
@@ -54,24 +78,24 @@ fn step(
             depth,
             marks: s.marks,
         }),
-        class::DIGIT => items::integer_item(
+        class::DIGIT => number::integer_item(
             message,
             rows,
             stack,
             s,
             Begun::Digits(false, (b - class::ZERO) as u64),
         ),
-        class::MINUS => items::integer_item(message, rows, stack, s, Begun::Minus),
-        class::ATOM_QUOTE => items::quoted_item(message, rows, stack, s, kind::ATOM, ATOM_QUOTE),
+        class::MINUS => number::integer_item(message, rows, stack, s, Begun::Minus),
+        class::ATOM_QUOTE => text::quoted_item(message, rows, stack, s, kind::ATOM, ATOM_QUOTE),
         class::STRING_QUOTE => {
-            items::quoted_item(message, rows, stack, s, kind::STRING, STRING_QUOTE)
+            text::quoted_item(message, rows, stack, s, kind::STRING, STRING_QUOTE)
         }
-        class::TAG_QUOTE => items::tag_item(message, rows, stack, marks, s),
-        class::COMMENT_QUOTE => items::comment_item(message, s),
-        class::LEFT_BRACE => items::open_item(marks, s),
-        class::RIGHT_BRACE => items::close_item(rows, stack, marks, s),
-        class::TILDE => items::binary_item(message, rows, stack, marks, s),
-        class::HASH => items::push_value(
+        class::TAG_QUOTE => text::tag_item(message, rows, stack, marks, s),
+        class::COMMENT_QUOTE => text::comment_item(message, s),
+        class::LEFT_BRACE => tuple::open_item(marks, s),
+        class::RIGHT_BRACE => tuple::close_item(rows, stack, marks, s),
+        class::TILDE => binary::binary_item(message, rows, stack, marks, s),
+        class::HASH => value::push_value(
             rows,
             stack,
             s,
@@ -84,10 +108,10 @@ fn step(
                 third: 0,
             },
         ),
-        class::AMPERSAND => items::cons_item(rows, stack, marks, s),
-        class::DOLLAR => items::end_item(stack, s),
-        class::GREATER => items::store_item(message, stack, marks, registers, s),
-        class::REGISTER => items::push_item(stack, registers, s, b),
+        class::AMPERSAND => list::cons_item(rows, stack, marks, s),
+        class::DOLLAR => end_item(stack, s),
+        class::GREATER => register::store_item(message, stack, marks, registers, s),
+        class::REGISTER => register::push_item(stack, registers, s, b),
         _ => Answer::Refused(refusal::STRAY, at),
     }
 }

@@ -22,6 +22,9 @@ pub struct RowWords {
     pub third: u32,
 }
 
+// How many values a word has.
+pub const WORD_VALUES: u64 = 4294967296;
+
 // How many rows a table has room for.
 pub fn row_room(rows: &[u32]) -> usize
     ensures { λ r. ⌜ r ≡ rowRoom (now (rows .entry)) ⌝ }

@@ -1,0 +1,109 @@
+-- `decoder::list::cons_item` meets its contract: too few to pop, no list, or a row for the cell.
+use Prim.Native.Nat.{_+_, _<_}
+use mathlib.Core.Path.{sym, _∙_}
+use native.Mathlib.Omega.{arith}
+use denote.Ref.{now}
+use borrow.Author.Tests.{not-true, not-false}
+use Rattle.format.specs.Machine.{base}
+use Rattle.table.specs.Words.{lastFirst}
+use Rattle.decoder.proofs.Limits.{refusal}
+use Rattle.decoder.proofs.Binaries.{cons-few, cons-7, cons-made}
+use borrow.Author.Needs.{needs}
+use Rattle.decoder.proofs.list.cons_item.Statement.{statement}
+use Rattle.decoder.proofs.list.cons_item.Tie as tie
+
+-- the places where the test was passed, where the base was read, and the call
+abbrev test : (c : tie.After-top2) → tie.Else1
+test c = c .before .before .before .before .before
+
+abbrev read : (c : tie.Else1) → tie.After-base
+read c = c .before .before .before
+
+abbrev call : (c : tie.After-base) → tie.Start
+call c = c .before .before .before .before .before .before
+
+-- two values lie above the base
+above : (c : tie.Else1) → base (lastFirst (now (call (read c) .args .marks)) (call (read c) .args .s .marks)) + 1 < call (read c) .args .s .depth .0
+above c = rw (read c .base .ensures) at (c .if1 .left)
+
+base-requires : tie.Need-base-requires
+base-requires c κs = search needs
+
+cast-if1 : tie.Need-cast-if1
+cast-if1 c = search needs
+
+cast-if1-2 : tie.Need-cast-if1-2
+cast-if1-2 c = search needs
+
+add-if1 : tie.Need-add-if1
+add-if1 c = search needs
+
+returns : tie.Need-returns
+returns c rg r h = refusal _ _ _ (cons-few _ _ _ rg _ r (rw (c .before .before .before .base .ensures) at (c .if1 .taken)))
+
+top-requires : tie.Need-top-requires
+top-requires c κs = search needs
+
+sub-t19 : tie.Need-sub-t19
+sub-t19 c = search needs
+
+top-requires-2 : tie.Need-top-requires-2
+top-requires-2 c κs = search needs
+
+is-list-requires : tie.Need-is-list-requires
+is-list-requires c κs = search needs
+
+same-length : tie.Need-same-length
+same-length c = search needs
+
+same-length-2 : tie.Need-same-length-2
+same-length-2 c = search needs
+
+returns-2 : tie.Need-returns-2
+returns-2 c rg r h =
+    let e = c .before .before .before in
+    refusal _ _ _ (cons-7 _ _ _ rg _ r h (above (test e)) _ _ (e .before .before .before .top .ensures) (e .top2 .ensures) (sym (c .before .is-list .ensures) ∙ not-true _ (c .if2 .taken)))
+
+sub-t19-2 : tie.Need-sub-t19-2
+sub-t19-2 c = search needs
+
+add-t11 : tie.Need-add-t11
+add-t11 c = search needs
+
+push-value-requires : tie.Need-push-value-requires
+push-value-requires c κs = search needs
+
+same-length-3 : tie.Need-same-length-3
+same-length-3 c = search needs
+
+same-length-4 : tie.Need-same-length-4
+same-length-4 c = search needs
+
+returns-3 : tie.Need-returns-3
+returns-3 c rg r h =
+    let e = c .before .before .before .before .before .before .before .before .before .before .before in
+    c .before .before .before .before .push-value .ensures _ rg _ h (omega arith) (omega arith)
+    ∙ cons-made _ _ _ rg _ r h (above (test e)) _ _ (e .before .before .before .top .ensures) (e .top2 .ensures) (sym (c .before .before .before .before .before .before .before .before .before .is-list .ensures) ∙ not-false _ (c .before .before .before .before .before .before .before .before .if2 .left))
+
+pub cons-item-spec : {M : Type 1} → statement M
+cons-item-spec =
+    tie.close
+    (tie.spec
+    base-requires
+    cast-if1
+    cast-if1-2
+    add-if1
+    returns
+    top-requires
+    sub-t19
+    top-requires-2
+    is-list-requires
+    same-length
+    same-length-2
+    returns-2
+    sub-t19-2
+    add-t11
+    push-value-requires
+    same-length-3
+    same-length-4
+    returns-3)

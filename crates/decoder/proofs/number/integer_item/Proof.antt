@@ -1,0 +1,65 @@
+-- `decoder::number::integer_item` meets its contract: a value makes a row, and anything else is refused.
+use mathlib.Core.Path.{sym, _∙_}
+use native.Mathlib.Omega.{arith}
+use borrow.Author.Needs.{needs}
+use Rattle.decoder.specs.Answers.{tables}
+use Rattle.decoder.proofs.Answered.{rest-ends, not-value}
+use Rattle.decoder.proofs.Integers as laws
+use Rattle.decoder.proofs.number.integer_item.Statement.{statement}
+use Rattle.decoder.proofs.number.integer_item.Tie as tie
+
+add-t11 : tie.Need-add-t11
+add-t11 c = search needs
+
+read-integer-requires : tie.Need-read-integer-requires
+read-integer-requires c κs = search needs
+
+enum-known-q : tie.Need-enum-known-q
+enum-known-q c = search needs
+
+no-integer-requires : tie.Need-no-integer-requires
+no-integer-requires c κs = search needs
+
+returns : tie.Need-returns
+returns c mk rg _ =
+    let read = c .before .before in
+    rw (c .no-integer .ensures) (laws.no-integer (tables _ _ mk rg) _ _ _ _ (rest-ends _ _ (omega arith)) _ (read .read-integer .ensures) (not-value _ (c .before .match .keys2)))
+
+cast-t20 : tie.Need-cast-t20
+cast-t20 c = search needs
+
+cast-t22 : tie.Need-cast-t22
+cast-t22 c = search needs
+
+push-value-requires : tie.Need-push-value-requires
+push-value-requires c κs = search needs
+
+same-length : tie.Need-same-length
+same-length c = search needs
+
+same-length-2 : tie.Need-same-length-2
+same-length-2 c = search needs
+
+returns-2 : tie.Need-returns-2
+returns-2 c mk rg h =
+    let pushed = c .before .before .before .before in
+    let at = pushed .before .before .before .before in
+    let i = laws.integer _ _ _ _ _ (sym (at .before .before .read-integer .ensures) ∙ at .q .given .1) in
+    pushed .push-value .ensures mk rg (i .bytes) h (omega arith) (omega (arith, i .place))
+    ∙ laws.integer-made (tables _ _ mk rg) _ _ _ i
+
+pub integer-item-spec : {M : Type 1} → statement M
+integer-item-spec =
+    tie.close
+    (tie.spec
+    add-t11
+    read-integer-requires
+    enum-known-q
+    no-integer-requires
+    returns
+    cast-t20
+    cast-t22
+    push-value-requires
+    same-length
+    same-length-2
+    returns-2)

@@ -1,0 +1,47 @@
+-- `decoder::tuple::open_item` meets its contract: no room for a mark, or the depth noted.
+use Rattle.decoder.proofs.Limits.{refusal}
+use Rattle.decoder.proofs.Steps.{open-14, open-goes}
+use borrow.Author.Needs.{needs}
+use Rattle.decoder.proofs.tuple.open_item.Statement.{statement}
+use Rattle.decoder.proofs.tuple.open_item.Tie as tie
+
+cast-i : tie.Need-cast-i
+cast-i c = search needs
+
+room-requires : tie.Need-room-requires
+room-requires c κs = search needs
+
+returns : tie.Need-returns
+returns c w st rg r h = refusal _ _ _ (open-14 w st _ rg _ r h (rw (c .before .room .ensures) at (c .if1 .taken)))
+
+mul-marks : tie.Need-mul-marks
+mul-marks c = search needs
+
+slice-write-marks : tie.Need-slice-write-marks
+slice-write-marks c = search needs
+
+add-t10 : tie.Need-add-t10
+add-t10 c = search needs
+
+add-t14 : tie.Need-add-t14
+add-t14 c = search needs
+
+same-length : tie.Need-same-length
+same-length c = search needs
+
+returns-2 : tie.Need-returns-2
+returns-2 c w st rg r h = open-goes w st _ rg _ r h (rw (c .before .room .ensures) at (c .if1 .left))
+
+pub open-item-spec : {M : Type 1} → statement M
+open-item-spec =
+    tie.close
+    (tie.spec
+    cast-i
+    room-requires
+    returns
+    mul-marks
+    slice-write-marks
+    add-t10
+    add-t14
+    same-length
+    returns-2)

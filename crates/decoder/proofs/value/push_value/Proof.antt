@@ -1,0 +1,89 @@
+-- `decoder::value::push_value` meets its contract: no room in rows, none on the stack, or the row and its number stored.
+use Prim.Native.Nat.{_<_, min}
+use native.Mathlib.Omega.{arith}
+use lib.ListN.{length}
+use denote.Ref.{now}
+use Rattle.format.specs.Bound.{stackBound}
+use Rattle.format.specs.Rows.{rowRoom}
+use Rattle.decoder.proofs.Limits.{refusal, made-12, made-13, made-goes}
+use borrow.Author.Needs.{needs}
+use Rattle.decoder.proofs.value.push_value.Statement.{statement}
+use Rattle.decoder.proofs.value.push_value.Tie as tie
+
+-- what the two tests leave
+row-left : (c : tie.Else1) → c .before .before .before .before .before .before .before .args .s .next .0 < rowRoom (now (c .before .before .before .before .before .before .before .args .rows))
+row-left c = rw (c .before .row-room .ensures) at (c .if1 .left)
+
+stack-left : (c : tie.Else2) → c .before .before .before .before .before .before .before .before .before .args .below .0 < min (length (now (c .before .before .before .before .before .before .before .before .before .args .stack))) stackBound
+stack-left c = rw (c .before .room .ensures) at (c .if2 .left)
+
+cast-i : tie.Need-cast-i
+cast-i c = search needs
+
+row-room-requires : tie.Need-row-room-requires
+row-room-requires c κs = search needs
+
+cast-if1 : tie.Need-cast-if1
+cast-if1 c = search needs
+
+same-length : tie.Need-same-length
+same-length c = search needs
+
+returns : tie.Need-returns
+returns c mk rg k h l e = refusal _ _ _ (made-12 _ _ mk rg _ _ k _ (rw (c .before .row-room .ensures) at (c .if1 .taken)))
+
+room-requires : tie.Need-room-requires
+room-requires c κs = search needs
+
+same-length-2 : tie.Need-same-length-2
+same-length-2 c = search needs
+
+returns-2 : tie.Need-returns-2
+returns-2 c mk rg k h l e = refusal _ _ _ (made-13 _ _ mk rg _ _ k _ (row-left (c .before .before)) (rw (c .before .room .ensures) at (c .if2 .taken)))
+
+store-row-requires : tie.Need-store-row-requires
+store-row-requires c κs = search needs
+
+mul-stack : tie.Need-mul-stack
+mul-stack c = search needs
+
+slice-write-stack : tie.Need-slice-write-stack
+slice-write-stack c = search needs
+
+add-t21 : tie.Need-add-t21
+unfolding rowRoom
+add-t21 c = omega (arith, row-left (c .before .before .before .before .before .before))
+
+add-t23 : tie.Need-add-t23
+add-t23 c = search needs
+
+same-length-3 : tie.Need-same-length-3
+same-length-3 c = search needs
+
+same-length-4 : tie.Need-same-length-4
+same-length-4 c = search needs
+
+returns-3 : tie.Need-returns-3
+returns-3 c mk rg k h l e =
+    rw (c .before .before .store-row .ensures) (made-goes _ _ mk rg _ _ k _ h (row-left (c .before .before .before .before .before .before)) (stack-left (c .before .before .before .before)) _ e)
+
+pub push-value-spec : {M : Type 1} → statement M
+push-value-spec =
+    tie.close
+    (tie.spec
+    cast-i
+    row-room-requires
+    cast-if1
+    same-length
+    returns
+    room-requires
+    same-length-2
+    returns-2
+    store-row-requires
+    mul-stack
+    slice-write-stack
+    add-t21
+    add-t23
+    same-length-3
+    same-length-4
+    returns-3)

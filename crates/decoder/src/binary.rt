@@ -1,0 +1,112 @@
+//! `~`: a count, so many bytes, and `~`.
+ghost use mathlib.Core.Path.{_≡_};
+ghost use mathlib.Core.List.{List};
+ghost use mathlib.Core.Option.{some};
+ghost use Prim.Native.Nat.{ℕ, _+_, _-_, _≤_, _<_};
+ghost use lib.IntN.{pos};
+ghost use lib.ListN.{length, drop};
+ghost use Rattle.format.specs.Bound.{messageBound};
+ghost use Rattle.format.specs.Lex.{tildeItem};
+ghost use Rattle.format.specs.Machine.{takeBinary};
+ghost use Rattle.format.specs.Rows.{rowValues, rowInteger};
+ghost use Rattle.table.specs.Words.{rowIn, lastFirst};
+ghost use Rattle.decoder.specs.Answers.{tables};
+ghost use Rattle.decoder.specs.Held.{Ready, machineOf, turn, limited, taken};
+ghost use Rattle.decoder.specs.Readers.{countAs};
+use crate::state;
+use crate::state::Answer;
+use crate::state::State;
+use crate::value;
+use format::Depth;
+use format::Offset;
+use format::Row;
+use format::kind;
+use format::refusal;
+use table::RowWords;
+
+// The byte after a binary.
+const TILDE: u8 = 126;
+
+// The sign bit of an integer's high half.
+const SIGN_BIT: u32 = 2147483648;
+
+// What a row is as a count: its value, no integer, or a negative one.
+pub(crate) enum Count {
+    Of(u64),
+    NoInteger,
+    Negative,
+}
+
+// The count that row v is.
+fn count_of(rows: &[u32], v: Row) -> Count
+    ensures { λ r. ⌜ r ≡ countAs (rowInteger (rowIn (now (rows .entry)) (v .0))) ⌝ }
+{
+    let w = table::load_row(rows, v);
+    if w.kind != kind::INTEGER {
+        return Count::NoInteger;
+    }
+    if SIGN_BIT <= w.first {
+        return Count::Negative;
+    }
+    Count::Of((w.first as u64) * table::WORD_VALUES + (w.second as u64))
+}
+
+// The bytes of a binary at `start`: so many, and a `~` after them.
+fn binary_bytes(message: &[u8], rows: &mut [u32], stack: &mut [u32], s: State, count: u64) -> Answer
+    requires { ⌜ (s .at .0 < length (now message)) × (length (now message) ≤ messageBound) ⌝ }
+    requires { ⌜ 0 < s .depth .0 ⌝ }
+    ensures { λ r. ⌜ ((marks registers : List ℕ) → Ready (tables (now (rows .entry)) (now (stack .entry)) marks registers) s → turn r (tables (now (rows .exit)) (now (stack .exit)) marks registers) ≡ limited (tables (now (rows .entry)) (now (stack .entry)) marks registers) s (takeBinary rowValues (s .at .0) (drop (s .at .0 + 1) (now (message .entry))) (machineOf (tables (now (rows .entry)) (now (stack .entry)) marks registers) s) (lastFirst (now (stack .entry)) (s .depth .0 - 1)) (some (pos count)))) ⌝ }
+{
+    let start = s.at.0 + 1;
+    let depth = s.depth.0;
+    if (message.len() - start) as u64 <= count {
+        return Answer::Refused(refusal::CUT, Offset(message.len()));
+    }
+    let end = start + (count as usize);
+    if message[end] != TILDE {
+        return Answer::Refused(refusal::STRAY, Offset(end));
+    }
+    value::push_value(
+        rows,
+        stack,
+        s,
+        Depth(depth - 1),
+        Offset(end + 1),
+        RowWords {
+            kind: kind::BINARY,
+            first: start as u32,
+            second: count as u32,
+            third: 0,
+        },
+    )
+}
+
+// `~`: pops a count, takes so many bytes, and wants `~` after them.
+pub(crate) fn binary_item(
+    message: &[u8],
+    rows: &mut [u32],
+    stack: &mut [u32],
+    marks: &[u32],
+    s: State,
+) -> Answer
+    requires { ⌜ (s .at .0 < length (now message)) × (length (now message) ≤ messageBound) ⌝ }
+    requires { ⌜ s .marks ≤ length (now marks) ⌝ }
+    requires { ⌜ s .depth .0 ≤ length (now stack) ⌝ }
+    ensures { λ r. ⌜ ((registers : List ℕ) → Ready (tables (now (rows .entry)) (now (stack .entry)) (now (marks .entry)) registers) s → turn r (tables (now (rows .exit)) (now (stack .exit)) (now (marks .entry)) registers) ≡ taken (tables (now (rows .entry)) (now (stack .entry)) (now (marks .entry)) registers) s (drop (s .at .0 + 1) (now (message .entry))) tildeItem) ⌝ }
+{
+    let at = s.at;
+    let depth = s.depth;
+    let base = state::base(marks, s.marks);
+    if depth.0 <= base.0 {
+        return Answer::Refused(refusal::TOO_FEW, at);
+    }
+    let v = state::top(stack, depth);
+    let q = count_of(rows, v);
+    let Count::Of(n) = q else {
+        let Count::Negative = q else {
+            return Answer::Refused(refusal::WRONG_KIND, at);
+        };
+        return Answer::Refused(refusal::NEGATIVE, at);
+    };
+    binary_bytes(message, rows, stack, s, n)
+}
