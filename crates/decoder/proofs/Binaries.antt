@@ -1,10 +1,10 @@
 -- `~`, `#` and `&`, and what they ask of the rows on the stack.
 use Prim.Native.Nat.{ℕ, suc, _+_, _*_, _-_, _^_, _≤_, _<_}
 use Prim.Native.Char.{code}
-use mathlib.Core.Path.{_≡_, refl, ap, sym, subst, _∙_}
+use mathlib.Core.Path.{_≡_, refl, ap, sym, _∙_}
 use mathlib.Core.Bool.{Bool, true, false}
 use mathlib.Core.Option.{Option, none, some}
-use mathlib.Core.List.{List, [], _∷_}
+use mathlib.Core.List.{List}
 use native.Mathlib.Numerals.{add-one}
 use native.Mathlib.Omega.{arith}
 use lib.IntN.{ℤ, pos, negsuc}
@@ -16,14 +16,14 @@ use Rattle.format.specs.Bits.{fromBits}
 use Rattle.format.specs.Lex.{tildeItem, hashItem, ampersandItem}
 use Rattle.format.specs.Machine as M
 use Rattle.format.specs.Machine.{base, step}
-use Rattle.format.specs.Rows.{Row, row, rowValues, rowAt, rowsOf, rowRoom, rowInteger, integerOfRow, isListKind, makeRows, add, integerKind, binaryKind, nilKind, consKind, spanRow, nilRow, consRow}
-use Rattle.format.specs.Answer.{Tables, rowsIn}
+use Rattle.format.specs.Rows.{Row, row, rowValues, rowAt, rowsOf, rowInteger, integerOfRow, isListKind, makeRows, add, integerKind, binaryKind, nilKind, consKind, spanRow, nilRow, consRow}
+use Rattle.format.specs.Answer.{Tables}
 use Rattle.table.specs.Words.{rowIn, lastFirst}
 use Rattle.table.proofs.Rows.{row-in}
 use Rattle.decoder.specs.declared.binary.Count.the-variants.{Of, NoInteger, Negative}
 use Rattle.decoder.specs.declared.state.State.{State}
 use Rattle.decoder.specs.Answers.{tables}
-use Rattle.decoder.specs.Held.{Ready, Turn, stops, machineOf, turn, limited, taken, withRow, made}
+use Rattle.decoder.specs.Held.{Ready, Turn, stops, machineOf, limited, taken, withRow, made}
 use Rattle.decoder.specs.Readers.{countAs}
 use Rattle.decoder.proofs.Limits.{length-rowsOf, refused-step}
 use Rattle.decoder.proofs.Pops.{pop-few, pop-top}

@@ -1,5 +1,5 @@
 -- From what the run leaves to the decoder's whole answer.
-use Prim.Native.Nat.{ℕ, _≤_, _<_, min}
+use Prim.Native.Nat.{ℕ, _≤_, _<_}
 use mathlib.Core.Path.{_≡_, refl, ap, sym, _∙_}
 use mathlib.Core.List.{List, []}
 use native.Mathlib.Nat.{sub-zero}
@@ -10,7 +10,7 @@ use Rattle.format.specs.Bound.{messageBound, registerWords}
 use Rattle.format.specs.Machine as M
 use Rattle.format.specs.Machine.{Outcome, Result, refused, accepted}
 use Rattle.format.specs.Rows.{Row, rowValues, rowRoom, wordsOf}
-use Rattle.format.specs.Answer.{Tables, overBound, zeroed, limitsOf, rowsIn, cleared, decodeRefusal, decodeResult, decodeAnswer}
+use Rattle.format.specs.Answer.{Tables, overBound, zeroed, limitsOf, rowsIn, cleared, decodeResult, decodeAnswer}
 use Rattle.format.specs.declared.Offset.{Offset}
 use Rattle.format.specs.declared.Row.{Row as RowNumber}
 use Rattle.format.proofs.Unchanged.{SameLengths}

@@ -1,10 +1,9 @@
 -- Integers, by what their reader answers.
 use Prim.Native.Nat.{ℕ, suc, _+_, _-_, _^_, _/_, _%_}
 use Prim.Native.Char.{code}
-use mathlib.Core.Path.{_≡_, refl, ap, sym, subst, _∙_}
+use mathlib.Core.Path.{_≡_, refl, sym, subst}
 use mathlib.Core.Bool.{Bool, true, false, cond}
 use mathlib.Core.List.{List, [], _∷_}
-use native.Mathlib.Omega.{arith}
 use lib.IntN.{ℤ}
 use lib.ListN.{length}
 use Rattle.format.specs.Bits.{toBits}
@@ -14,7 +13,7 @@ use Rattle.format.specs.Lex as L
 use Rattle.format.specs.Lex.{Item, inRange, digits, integerOf, negative}
 use Rattle.format.specs.Machine as M
 use Rattle.format.specs.Machine.{step}
-use Rattle.format.specs.Rows.{row, rowValues, makeRows, add, integerKind, integerRow}
+use Rattle.format.specs.Rows.{row, makeRows, add, integerKind, integerRow}
 use Rattle.format.specs.Answer.{Tables}
 use Rattle.format.specs.declared.Offset.{Offset}
 use Rattle.lexer.specs.Integer.{withSign, valueAfter, ranFrom, digitsAfter, integerFrom}
@@ -23,7 +22,7 @@ use Rattle.lexer.specs.declared.integer.Begun.the-variants.{Minus, Digits}
 use Rattle.lexer.specs.declared.integer.Integer.{Integer}
 use Rattle.lexer.specs.declared.integer.Integer.the-variants.{Value, OutOfRange, Stray, Ended}
 use Rattle.decoder.specs.declared.state.State.{State}
-use Rattle.decoder.specs.Held.{Turn, machineOf, turn, limited, taken, withRow, made}
+use Rattle.decoder.specs.Held.{machineOf, turn, taken, withRow, made}
 use Rattle.decoder.specs.Readers.{noIntegerAs, begunItem}
 use Rattle.decoder.proofs.Limits.{refused-step}
 

@@ -7,7 +7,7 @@ use native.Mathlib.Omega.{arith}
 use lib.ListN.{length, set, drop}
 use borrow.Author.Tests.{lt-ltb, le-ltb}
 use Rattle.format.specs.Bound.{stackBound, markBound}
-use Rattle.format.specs.Machine.{Machine, Step, refuse, go, finish, bounded}
+use Rattle.format.specs.Machine.{Machine, refuse, go, bounded}
 use Rattle.format.specs.Rows.{Row, rowValues, rowRoom, rowWords, rowsOf}
 use Rattle.format.specs.Answer.{Tables, limitsOf, rowsIn}
 use Rattle.format.specs.declared.Offset.{Offset}
@@ -15,7 +15,7 @@ use Rattle.table.specs.Words.{storedRows, lastFirst}
 use Rattle.decoder.specs.declared.state.State.{State}
 use Rattle.decoder.specs.declared.state.Answer.the-variants.{More, Refused}
 use Rattle.decoder.specs.Answers.{tables}
-use Rattle.decoder.specs.Held.{Ready, Turn, goes, ends, stops, registerIn, machineOf, turn, after, limited, withRow, made}
+use Rattle.decoder.specs.Held.{Ready, Turn, goes, stops, machineOf, turn, after, limited, withRow, made}
 use Rattle.table.proofs.Rows.{stored-after, pushed, length-lastFirst}
 
 -- a refusal, as the code answers it
@@ -24,14 +24,10 @@ unfolding turn
 refusal n p t e = sym e
 
 module _ (t : Tables) (s : State) where
-  -- an item's own refusal, and the end, whatever the limits
+  -- an item's own refusal, whatever the limits
   pub refused-step : (n p : ℕ) → limited t s (refuse n p) ≡ stops n p
   unfolding limited after bounded
   refused-step n p = refl
-
-  pub ended-step : (v : ℕ) → limited t s (finish v) ≡ ends v (t .rows)
-  unfolding limited after bounded
-  ended-step v = refl
 
   module _ (k w : ℕ) (m : Machine rowValues) where
     pub no-rows : rowRoom (t .rows) < s .next .0 + w → limited t s (go k w m) ≡ stops 12 (s .at .0)

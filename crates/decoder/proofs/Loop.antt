@@ -1,6 +1,6 @@
 -- The run's loop: what holds before each item, and what the white space, the item and the end make of it.
 use Prim.Native.Nat.{ℕ, suc, _+_, _≤_, _<_}
-use mathlib.Core.Path.{_≡_, refl, ap, sym, subst, _∙_}
+use mathlib.Core.Path.{_≡_, refl, ap, sym, _∙_}
 use mathlib.Core.List.{List, _∷_}
 use native.Mathlib.Numerals.{add-one}
 use native.Mathlib.Omega.{arith}
@@ -8,19 +8,18 @@ use lib.ListN.{length, drop, length-drop}
 use Rattle.format.specs.Bound.{registerWords}
 use Rattle.format.specs.Lex.{lex}
 use Rattle.format.specs.Machine as M
-use Rattle.format.specs.Machine.{refused, accepted, runFrom}
-use Rattle.format.specs.Rows.{Row, rowValues}
+use Rattle.format.specs.Machine.{runFrom}
+use Rattle.format.specs.Rows.{rowValues}
 use Rattle.format.specs.Answer.{Tables, zeroed, limitsOf, rowsIn}
 use Rattle.format.specs.declared.Offset.{Offset}
 use Rattle.format.specs.declared.Row.{Row as RowNumber}
-use Rattle.format.proofs.SoundRows.{Kept}
 use Rattle.format.proofs.Unchanged.{SameLengths, same-limits}
 use Rattle.lexer.specs.White.{nextFrom}
 use Rattle.lexer.specs.declared.white.Next.the-variants.{Byte, Ended}
 use Rattle.decoder.specs.declared.Decoded.the-variants as Decoded
 use Rattle.decoder.specs.declared.state.State.{State}
 use Rattle.decoder.specs.declared.state.Answer.the-variants.{More, Done, Refused}
-use Rattle.decoder.specs.Held.{Ready, machineOf, turn, taken, leftAs, leftBy}
+use Rattle.decoder.specs.Held.{machineOf, turn, taken, leftAs, leftBy}
 use Rattle.decoder.proofs.White.{Within, Found, found, ended}
 use Rattle.decoder.proofs.Turns.{Before, within, refuses, accepts, goes-after, startState, start-machine, start-before}
 

@@ -1,8 +1,8 @@
 -- `>` and a register byte.
-use Prim.Native.Nat.{ℕ, zero, suc, _+_, _-_, _≤_, _<_, min}
-use mathlib.Core.Path.{_≡_, refl, ap, sym, _∙_}
+use Prim.Native.Nat.{ℕ, suc, _+_, _-_, _≤_, _<_}
+use mathlib.Core.Path.{_≡_, refl, ap, sym}
 use mathlib.Core.Bool.{Bool, true, false, cond}
-use mathlib.Core.Option.{Option, none, some}
+use mathlib.Core.Option.{none, some}
 use mathlib.Core.List.{List, [], _∷_}
 use native.Mathlib.Omega.{arith}
 use lib.ListN.{length, set, getD}
@@ -19,12 +19,11 @@ use Rattle.format.specs.Rows.{rowValues}
 use Rattle.format.specs.declared.Offset.{Offset}
 use Rattle.table.specs.Words.{lastFirst}
 use Rattle.lexer.specs.Register.{registerFrom}
-use Rattle.lexer.specs.declared.register.Register.{Register}
 use Rattle.lexer.specs.declared.register.Register.the-variants.{Named, Stray, Ended}
 use Rattle.decoder.specs.declared.state.State.{State}
 use Rattle.decoder.specs.declared.state.Answer.the-variants.{More, Refused}
 use Rattle.decoder.specs.Answers.{tables}
-use Rattle.decoder.specs.Held.{Ready, Turn, stops, registerIn, machineOf, turn, limited, taken}
+use Rattle.decoder.specs.Held.{Ready, stops, registerIn, machineOf, turn, taken}
 use Rattle.table.proofs.Rows.{length-lastFirst}
 use Rattle.decoder.proofs.Limits.{refused-step}
 use Rattle.decoder.proofs.Pops.{pop-few, pop-top}

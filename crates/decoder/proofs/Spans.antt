@@ -1,9 +1,9 @@
 -- Atoms, strings, tags and comments, by what the reader of quoted text answers.
 use Prim.Native.Nat.{ℕ, suc, _+_, _-_, _≤_, _<_}
 use Prim.Native.Char.{code}
-use mathlib.Core.Path.{_≡_, refl, ap, sym, subst, _∙_}
-use mathlib.Core.List.{List, [], _∷_}
-use mathlib.Core.Bool.{Bool, false}
+use mathlib.Core.Path.{_≡_, refl, ap, sym, subst}
+use mathlib.Core.List.{List}
+use mathlib.Core.Bool.{false}
 use native.Mathlib.Numerals.{add-one}
 use native.Mathlib.Omega.{arith}
 use lib.ListN.{length, getD, take}
@@ -11,19 +11,19 @@ use lib.Seq.{length-take-le}
 use Rattle.format.specs.Lex as L
 use Rattle.format.specs.Lex.{Item, Scan, scan, quoted, quotedItem, atomItem, stringItem, tagItem, commentItem}
 use Rattle.format.specs.Machine as M
-use Rattle.format.specs.Machine.{base, go, step}
-use Rattle.format.specs.Rows.{Row, row, rowValues, makeRows, add, atomKind, stringKind, tagKind, spanRow, tagRow}
+use Rattle.format.specs.Machine.{base, step}
+use Rattle.format.specs.Rows.{row, rowValues, makeRows, add, atomKind, stringKind, tagKind, spanRow, tagRow}
 use Rattle.format.specs.Answer.{Tables}
 use Rattle.format.specs.declared.Offset.{Offset}
 use Rattle.format.proofs.Items.{ItemOk, quoted-ok}
 use Rattle.table.specs.Words.{lastFirst}
 use Rattle.lexer.specs.Quoted.{escapedAfter, scanned, quotedFrom}
 use Rattle.lexer.specs.declared.quoted.Quoted.{Quoted}
-use Rattle.lexer.specs.declared.quoted.Quoted.the-variants.{Closed, Stray, Ended}
+use Rattle.lexer.specs.declared.quoted.Quoted.the-variants.{Closed}
 use Rattle.decoder.specs.declared.state.State.{State}
-use Rattle.decoder.specs.declared.state.Answer.the-variants.{More, Refused}
+use Rattle.decoder.specs.declared.state.Answer.the-variants.{More}
 use Rattle.decoder.specs.Answers.{tables}
-use Rattle.decoder.specs.Held.{Ready, Spans, Turn, stops, machineOf, turn, limited, taken, withRow, made}
+use Rattle.decoder.specs.Held.{Ready, Spans, stops, machineOf, turn, limited, taken, withRow, made}
 use Rattle.decoder.specs.Readers.{unclosedAs}
 use Rattle.decoder.proofs.Limits.{refused-step}
 use Rattle.decoder.proofs.Pops.{pop-few, pop-top}

@@ -1,27 +1,25 @@
 -- Items that make no row: white space, `{`, `$`, and a push.
 use Prim.Native.Nat.{ℕ, zero, suc, _+_, _-_, _≤_, _<_, min}
-use mathlib.Core.Path.{_≡_, refl, ap, sym, _∙_}
-use mathlib.Core.List.{List, [], _∷_}
-use mathlib.Core.Option.{none, some}
-use native.Mathlib.Nat.{not-suc-le-zero}
-use native.Mathlib.Numerals.{add-one, sub-one}
+use mathlib.Core.Path.{_≡_, refl, sym, _∙_}
+use mathlib.Core.List.{List, _∷_}
+use native.Mathlib.Numerals.{add-one}
 use native.Mathlib.Omega.{arith}
 use lib.ListN.{length, set, getD}
-use borrow.Author.Tests.{lt-ltb, le-ltb, eq-eqb, ne-eqb}
+use borrow.Author.Tests.{ne-eqb}
 use Rattle.format.specs.Bound.{stackBound, markBound}
 use Rattle.format.specs.Lex as L
 use Rattle.format.specs.Lex.{whiteItem, openItem, endItem, pushItem}
 use Rattle.format.specs.Machine as M
 use Rattle.format.specs.Machine.{Machine, refuse, go, bounded, step}
-use Rattle.format.specs.Rows.{Row, rowValues, rowRoom, rowsOf}
-use Rattle.format.specs.Answer.{Tables, rowsIn}
+use Rattle.format.specs.Rows.{rowValues, rowsOf}
+use Rattle.format.specs.Answer.{Tables}
 use Rattle.table.specs.Words.{lastFirst}
 use Rattle.decoder.specs.declared.state.State.{State}
 use Rattle.decoder.specs.declared.state.Answer.the-variants.{More, Done, Refused}
 use Rattle.decoder.specs.Answers.{tables}
-use Rattle.decoder.specs.Held.{Ready, Turn, goes, ends, stops, registerIn, machineOf, turn, after, limited, taken}
+use Rattle.decoder.specs.Held.{Ready, goes, stops, registerIn, machineOf, turn, after, limited, taken}
 use Rattle.table.proofs.Rows.{pushed, length-lastFirst}
-use Rattle.decoder.proofs.Limits.{refused-step, ended-step, no-stack, no-marks, room-for}
+use Rattle.decoder.proofs.Limits.{refused-step, no-stack, no-marks, room-for}
 
 module _ (t : Tables) (s : State) (h : Ready t s) where
   -- an item that makes no row and leaves stack and marks within their room

@@ -1,24 +1,23 @@
 -- `}`: a tuple of all values above the mark.
 use Prim.Native.Nat.{ℕ, zero, suc, _+_, _-_, _≤_, _<_, min}
-use mathlib.Core.Path.{_≡_, refl, ap, sym, _∙_}
-use mathlib.Core.List.{List, [], _∷_, _++_, reverse}
+use mathlib.Core.Path.{_≡_, refl, sym, _∙_}
+use mathlib.Core.List.{List, _∷_, _++_, reverse}
 use native.Mathlib.Nat.{not-suc-le-zero}
 use native.Mathlib.Numerals.{add-one, sub-one}
 use native.Mathlib.Omega.{arith}
-use lib.ListN.{length, set, getD, take, drop}
+use lib.ListN.{length, set, take, drop}
 use lib.Seq.{length-take-le}
 use borrow.Author.Tests.{lt-ltb, le-ltb, le-leb}
 use Rattle.format.specs.Bound.{stackBound}
 use Rattle.format.specs.Lex.{closeItem}
 use Rattle.format.specs.Machine as M
 use Rattle.format.specs.Machine.{Machine, refuse, go, base, step}
-use Rattle.format.specs.Rows.{Row, rowValues, rowRoom, rowsOf, makeRows, addTuple}
-use Rattle.format.specs.Answer.{Tables}
-use Rattle.table.specs.Words.{storedRows, lastFirst, between, fieldRows, tupleRows, storedTuple}
+use Rattle.format.specs.Rows.{Row, rowValues, rowRoom, rowsOf, makeRows}
+use Rattle.table.specs.Words.{lastFirst, between, tupleRows, storedTuple}
 use Rattle.decoder.specs.declared.state.State.{State}
 use Rattle.decoder.specs.declared.state.Answer.the-variants.{More}
 use Rattle.decoder.specs.Answers.{tables}
-use Rattle.decoder.specs.Held.{Ready, Turn, stops, registerIn, machineOf, turn, limited, taken}
+use Rattle.decoder.specs.Held.{Ready, stops, registerIn, machineOf, turn, taken}
 use Rattle.table.proofs.Rows.{pushed, length-lastFirst, drop-lastFirst, tuple-rows}
 use Rattle.table.proofs.Tuple.{length-tuple}
 use Rattle.decoder.proofs.Limits.{length-rowsOf, stored, refused-step, no-rows, no-stack, room-for}

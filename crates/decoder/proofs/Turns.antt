@@ -1,20 +1,20 @@
 -- What an item's turn makes of the run: the machine goes on and all that holds before an item holds again, or the run is over.
-use Prim.Native.Nat.{ℕ, zero, suc, _+_, _-_, _≤_, _<_, min}
+use Prim.Native.Nat.{ℕ, zero, suc, _+_, _-_, _≤_, _<_}
 use mathlib.Core.Path.{_≡_, refl, ap, sym, subst, _∙_}
 use mathlib.Core.Bool.{Bool, true, false, cond}
-use mathlib.Core.Option.{Option, none, some}
-use mathlib.Core.List.{List, [], _∷_}
+use mathlib.Core.Option.{none}
+use mathlib.Core.List.{List, _∷_}
 use native.Mathlib.Nat.{sub-zero, not-suc-le-zero}
 use native.Mathlib.Omega.{arith}
 use lib.ListN.{length, drop, getD, length-drop}
 use lib.Seq.{drop-drop}
 use lib.Dec.{ltb}
 use borrow.Author.Tests.{ltb-true, ltb-false}
-use Rattle.format.specs.Bound.{rowBound, stackBound, markBound, registerWords}
+use Rattle.format.specs.Bound.{registerWords}
 use Rattle.format.specs.Lex.{lex}
 use Rattle.format.specs.Machine as M
 use Rattle.format.specs.Machine.{Machine, Limits, Step, Outcome, Result, refuse, go, finish, refused, accepted, bounded, step, follow, runFrom}
-use Rattle.format.specs.Rows.{Row, rowValues, rowRoom, rowsOf, wordsOf}
+use Rattle.format.specs.Rows.{rowValues, rowRoom, rowsOf, wordsOf}
 use Rattle.format.specs.Answer.{Tables, zeroed, limitsOf, rowsIn}
 use Rattle.format.specs.declared.Offset.{Offset}
 use Rattle.format.specs.declared.Row.{Row as RowNumber}
@@ -23,13 +23,12 @@ use Rattle.format.proofs.Moves as Mv
 use Rattle.format.proofs.Moves.{move, Inside, inside}
 use Rattle.format.proofs.SoundRows.{Below, Kept, Accepted, keeps, start-kept}
 use Rattle.format.proofs.Decoded.{rows-in}
-use Rattle.format.proofs.Unchanged.{SameLengths, same-limits}
+use Rattle.format.proofs.Unchanged.{SameLengths}
 use Rattle.table.specs.Words.{lastFirst}
 use Rattle.table.proofs.Rows.{length-lastFirst, getD-zeros}
 use Rattle.decoder.specs.declared.state.State.{State}
-use Rattle.decoder.specs.declared.state.Answer.{Answer}
 use Rattle.decoder.specs.declared.state.Answer.the-variants.{More, Done, Refused}
-use Rattle.decoder.specs.Held.{Ready, Turn, goes, ends, stops, registerIn, machineOf, turn, after, limited, taken}
+use Rattle.decoder.specs.Held.{Ready, registerIn, machineOf, turn, after, limited, taken}
 use Rattle.decoder.proofs.White.{Within, skipped}
 
 -- a test of room that did not refuse

@@ -1,24 +1,18 @@
 -- The run, item by item: the white space before an item, and what its turn makes of the run.
-use Prim.Native.Nat.{ℕ, zero, suc, _+_, _-_, _≤_, _<_, min}
-use mathlib.Core.Path.{_≡_, refl, ap, sym, subst, _∙_}
-use mathlib.Core.Bool.{Bool, true, false, cond}
-use mathlib.Core.Option.{Option, none, some}
+use Prim.Native.Nat.{ℕ, zero, suc, _+_, _-_, _≤_}
+use mathlib.Core.Path.{_≡_, refl, _∙_}
+use mathlib.Core.Bool.{Bool, true, false}
+use mathlib.Core.Option.{none}
 use mathlib.Core.List.{List, [], _∷_}
 use native.Mathlib.Nat.{add-zero}
-use native.Mathlib.Numerals.{add-one}
 use native.Mathlib.Omega.{arith}
-use lib.ListN.{length, drop, getD, replicate, length-drop, length-replicate}
-use lib.Seq.{drop-cons}
-use lib.Dec.{ltb}
-use borrow.Author.Tests.{le-ltb, ltb-false}
-use Rattle.format.specs.Bound.{rowBound, stackBound, markBound, registerWords}
+use lib.ListN.{length, drop, length-drop}
+use borrow.Author.Tests.{le-ltb}
 use Rattle.format.specs.Byte as B
 use Rattle.format.specs.Byte.{hasClass}
-use Rattle.format.specs.Lex.{lex, itemOf}
-use Rattle.format.specs.Machine as M
-use Rattle.format.specs.Machine.{Machine, Limits, Step, Outcome, Result, refuse, go, finish, refused, accepted, bounded, step, follow, runFrom}
-use Rattle.format.specs.Rows.{Row, rowValues, rowRoom, rowsOf}
-use Rattle.format.specs.Answer.{Tables, limitsOf, rowsIn}
+use Rattle.format.specs.Lex.{itemOf}
+use Rattle.format.specs.Machine.{Machine, Limits, refused, bounded, step, follow, runFrom}
+use Rattle.format.specs.Rows.{rowValues}
 use Rattle.format.specs.declared.Offset.{Offset}
 use Rattle.format.proofs.Lists.{drop-next}
 use Rattle.lexer.specs.White.{nextFrom}

@@ -8,7 +8,6 @@ use lib.ListN.{length, getD, take}
 use lib.Dec.{eqb}
 use Rattle.format.specs.Bound.{rowBound, stackBound, markBound, registerWords}
 use Rattle.format.specs.Lex.{Item}
-use Rattle.format.specs.Machine as M
 use Rattle.format.specs.Machine.{Machine, Step, Outcome, Result, refuse, go, finish, refused, accepted, bounded, step}
 use Rattle.format.specs.Rows.{Row, rowValues, rowsOf, rowRoom, spanRow}
 use Rattle.format.specs.Answer.{Tables, zeroed, limitsOf, rowsIn}

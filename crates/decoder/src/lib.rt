@@ -2,7 +2,6 @@
 ghost use mathlib.Core.Path.{_≡_};
 ghost use Rattle.format.specs.Answer.{decodeAnswer};
 ghost use Rattle.decoder.specs.Answers.{decodedAs, tables};
-ghost use Rattle.decoder.specs.Held.{settled};
 use format::Offset;
 use format::Row;
 use format::bound;
@@ -13,6 +12,7 @@ mod list;
 mod number;
 mod register;
 mod run;
+mod settle;
 mod state;
 mod text;
 mod tuple;
@@ -22,24 +22,6 @@ mod value;
 pub enum Decoded {
     Accepted(usize, Row, u32),
     Refused(u8, Offset),
-}
-
-// Clears the working memory, and on a refusal the rows too.
-fn settle(
-    rows: &mut [u32],
-    stack: &mut [u32],
-    marks: &mut [u32],
-    registers: &mut [u32],
-    answer: Decoded,
-)
-    ensures { λ r. ⌜ tables (now (rows .exit)) (now (stack .exit)) (now (marks .exit)) (now (registers .exit)) ≡ settled answer (tables (now (rows .entry)) (now (stack .entry)) (now (marks .entry)) (now (registers .entry))) ⌝ }
-{
-    table::clear(stack);
-    table::clear(marks);
-    table::clear(registers);
-    if let Decoded::Refused(_, _) = answer {
-        table::clear(rows);
-    }
 }
 
 // Decodes a message into `rows`. The other tables are working memory: the stack, the marks (01's noted depths), the registers.
@@ -61,6 +43,6 @@ pub fn decode(
     table::clear(rows);
     table::clear(registers);
     let answer = run::run(message, rows, stack, marks, registers);
-    settle(rows, stack, marks, registers, answer);
+    settle::settle(rows, stack, marks, registers, answer);
     answer
 }

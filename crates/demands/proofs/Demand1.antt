@@ -12,7 +12,6 @@ use Rattle.format.specs.Rows.{rowValues}
 use Rattle.format.specs.Answer as A
 use Rattle.format.specs.Answer.{Tables, overBound, limitsOf, cleared, decodeRefusal, decodeResult, decodeAnswer}
 use Rattle.format.specs.declared.Offset.{Offset}
-use Rattle.format.proofs.Moves.{MachineNumber}
 use Rattle.format.proofs.RowCount.{machine-number}
 use Rattle.format.proofs.SoundRows.{accepted-rows}
 use Rattle.decoder.specs.declared.Decoded.{Decoded}

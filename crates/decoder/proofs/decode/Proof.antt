@@ -1,15 +1,20 @@
 -- `decoder::decode` meets its contract: refusals 1 and 2 touch nothing; else the run on cleared tables, and the tables settled.
-use mathlib.Core.Path.{_≡_, sym, _∙_}
-use denote.Ref.{now}
-use Rattle.format.specs.Answer.{Tables}
-use Rattle.format.proofs.Unchanged.{SameLengths}
-use Rattle.decoder.specs.Answers.{tables}
+use mathlib.Core.Path.{sym}
 use Rattle.decoder.proofs.Decodes.{over, short, is-zeroed, decoded}
 use borrow.Author.Needs.{needs}
 use Rattle.decoder.proofs.decode.Statement.{statement}
 use Rattle.decoder.proofs.decode.Tie as tie
 
--- from the run back to the clearings and the tests
+-- back to where the tables were settled, to the run, the clearings and the tests
+abbrev settled-at : (c : tie.After-slice-known14) → tie.After-settle
+settled-at c = c .before .before .before .before .before .before .before .before
+
+abbrev given : (c : tie.After-settle) → tie.After-slice-known10
+given c = c .before .before .before .before .before
+
+abbrev ran : (c : tie.After-settle) → tie.After-run
+ran c = given c .before .before .before .before .before .before .before .before
+
 abbrev ready : (c : tie.After-run) → tie.After-clear2
 ready c = c .before .before .before .before .before .before .before
 
@@ -54,10 +59,10 @@ same-length-4 c = search needs
 
 returns-3 : tie.Need-returns-3
 returns-3 c =
-    let at = c .before .before .before .before .before .before .before .before .before .before .before .before .before .before .before .before .before .before .before .before .before in
+    let at = ran (settled-at c) in
     let r = ready at in
     let p = passed (first r) in
-    decoded _ _ _ _ _ _ _ (first r .clear .ensures) (r .clear2 .ensures) (p .before .if1 .left) (p .if2 .left) _ _ (record { rows = sym (at .run .kept .1 .0); stack = sym (at .run .kept .1 .1 .0); marks = sym (at .run .kept .1 .1 .1 .0); registers = sym (at .run .kept .1 .1 .1 .1 .0) }) _ (at .run .ensures) (c .before .before .before .before .before .before .before .before .settle .ensures)
+    decoded _ _ _ _ _ _ _ (first r .clear .ensures) (r .clear2 .ensures) (p .before .if1 .left) (p .if2 .left) _ _ (record { rows = sym (at .run .kept .1 .0); stack = sym (at .run .kept .1 .1 .0); marks = sym (at .run .kept .1 .1 .1 .0); registers = sym (at .run .kept .1 .1 .1 .1 .0) }) _ (at .run .ensures) (settled-at c .settle .ensures)
 
 pub decode-spec : {M : Type 1} → statement M
 decode-spec =

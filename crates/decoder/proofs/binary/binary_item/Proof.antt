@@ -76,9 +76,11 @@ same-length-6 c = search needs
 
 returns-4 : tie.Need-returns-4
 returns-4 c rg h =
-    let e = c .before .before .before .before .before .before .before .before .before .before .before .before in
-    c .before .before .before .before .binary-bytes .ensures _ rg h
-    ∙ sym (binary-of _ _ _ rg _ _ h (above (test e)) _ (e .top .ensures) _ (sym (c .before .before .before .before .before .before .before .before .before .before .count-of .ensures) ∙ c .before .before .before .before .before .before .before .before .q .given .1))
+    let taken = c .before .before .before .before in
+    let q = taken .before .before .before .before in
+    let e = q .before .before .before .before in
+    taken .binary-bytes .ensures _ rg h
+    ∙ sym (binary-of _ _ _ rg _ _ h (above (test e)) _ (e .top .ensures) _ (sym (q .before .before .count-of .ensures) ∙ q .q .given .1))
 
 pub binary-item-spec : {M : Type 1} → statement M
 binary-item-spec =

@@ -81,9 +81,11 @@ same-length-4 c = search needs
 
 returns-3 : tie.Need-returns-3
 returns-3 c rg r h =
-    let e = c .before .before .before .before .before .before .before .before .before .before .before in
-    c .before .before .before .before .push-value .ensures _ rg _ h (omega arith) (omega arith)
-    ∙ cons-made _ _ _ rg _ r h (above (test e)) _ _ (e .before .before .before .top .ensures) (e .top2 .ensures) (sym (c .before .before .before .before .before .before .before .before .before .is-list .ensures) ∙ not-false _ (c .before .before .before .before .before .before .before .before .if2 .left))
+    let pushed = c .before .before .before .before in
+    let listed = pushed .before .before .before .before in
+    let e = listed .before .before .before in
+    pushed .push-value .ensures _ rg _ h (omega arith) (omega arith)
+    ∙ cons-made _ _ _ rg _ r h (above (test e)) _ _ (e .before .before .before .top .ensures) (e .top2 .ensures) (sym (listed .before .is-list .ensures) ∙ not-false _ (listed .if2 .left))
 
 pub cons-item-spec : {M : Type 1} → statement M
 cons-item-spec =

@@ -1,18 +1,25 @@
 -- `decoder::run::run` meets its contract: the run from where the loop stands is the whole run.
-use Prim.Native.Nat.{suc, _-_, _≤_, _<_}
+use Prim.Native.Nat.{ℕ, suc, _+_, _-_, _≤_, _<_}
 use mathlib.Core.Path.{_≡_, sym, _∙_}
 use mathlib.Core.List.{_∷_}
 use native.Mathlib.Omega.{arith}
 use lib.ListN.{length, drop}
 use denote.Ref.{now}
 use borrow.Author.Needs.{needs}
-use Rattle.format.specs.Answer.{Tables}
+use Rattle.format.specs.Answer.{Tables, limitsOf}
+use Rattle.format.specs.Machine.{run}
+use Rattle.format.specs.Rows.{rowValues}
+use Rattle.format.specs.declared.Offset.{Offset}
+use Rattle.format.specs.declared.Row.{Row as RowNumber}
 use Rattle.format.proofs.Unchanged.{SameLengths}
 use Rattle.lexer.specs.White.{nextFrom}
 use Rattle.lexer.specs.declared.white.Next.the-variants.{Byte}
+use Rattle.decoder.specs.declared.Decoded.the-variants.{Accepted}
+use Rattle.decoder.specs.declared.Decoded.the-variants as Decoded
 use Rattle.decoder.specs.declared.state.State.{State}
-use Rattle.decoder.specs.declared.state.Answer.the-variants.{More}
+use Rattle.decoder.specs.declared.state.Answer.the-variants.{More, Done, Refused}
 use Rattle.decoder.specs.Answers.{tables}
+use Rattle.decoder.specs.Held.{leftAs, leftBy}
 use Rattle.decoder.proofs.Loop.{Going, chain, placed, starts, over, byte-inside, byte-here, at-byte, goes-on, done, stopped}
 use Rattle.decoder.proofs.run.run.Statement.{statement}
 use Rattle.decoder.proofs.run.run.Tie as tie
@@ -23,7 +30,10 @@ Inv-loop message rows₀ stack₀ marks₀ registers₀ s₀ rows stack marks re
 abbrev μ-loop : tie.MeasureT-loop
 μ-loop message rows₀ stack₀ marks₀ registers₀ s₀ rows stack marks registers s = length message - s .at .0
 
--- from the step back to where the byte was found, to the loop's head, and to the call
+-- back to the step, to where the byte was found, to the loop's head, and to the call
+abbrev stepped : (c : tie.After-slice-known8 Inv-loop μ-loop) → tie.After-step Inv-loop μ-loop
+stepped c = c .before .before .before .before .before .before .before .before
+
 abbrev found-at : (c : tie.After-step Inv-loop μ-loop) → tie.After-q Inv-loop μ-loop
 found-at c = c .before .before .before .before .before .before .before .before
 
@@ -70,6 +80,18 @@ all-kept c = chain (head (found-at c) .loop .inv .same) (kept c)
 more : (c : tie.After-step Inv-loop μ-loop) (s : State) → c .step .result ≡ More s → Going (now (call (head (found-at c)) .args .message)) (lent (head (found-at c))) (left c) s × (here (found-at c) .at .0 < s .at .0)
 more c s e = goes-on _ _ _ _ (kept c) _ _ (going (found-at c)) (first (found-at c)) s (rw e at (c .step .ensures))
 
+-- the step ends the message with a root
+ends : (c : tie.After-step Inv-loop μ-loop) (root : RowNumber) → c .step .result ≡ Done root
+    → leftAs (Accepted (here (found-at c) .at .0 + 1) root (here (found-at c) .next .0)) (left c .rows)
+    ≡ leftBy (lent (head (found-at c)) .rows) (run rowValues (limitsOf (lent (head (found-at c)))) (now (call (head (found-at c)) .args .message)))
+ends c root e = done _ _ _ _ (kept c) _ _ (going (found-at c)) (first (found-at c)) root (rw e at (c .step .ensures))
+
+-- or refuses it
+refuses : (c : tie.After-step Inv-loop μ-loop) (n : ℕ) (p : Offset) → c .step .result ≡ Refused n p
+    → leftAs (Decoded.Refused n p) (left c .rows)
+    ≡ leftBy (lent (head (found-at c)) .rows) (run rowValues (limitsOf (lent (head (found-at c)))) (now (call (head (found-at c)) .args .message)))
+refuses c n p e = stopped _ _ _ _ (kept c) _ _ (going (found-at c)) (first (found-at c)) n p (rw e at (c .step .ensures)) _
+
 loop-holds : tie.Need-loop-holds Inv-loop μ-loop
 loop-holds c = starts _ _ (c .before .before .before .before .before .pre .1 .0) (c .before .before .before .before .before .pre .1 .1) (c .before .before .before .before .before .pre .0 .1)
 
@@ -107,56 +129,52 @@ enum-known-a c = search needs
 
 loop-less : tie.Need-loop-less Inv-loop μ-loop
 loop-less c =
-    let e = c .before .before .before .before .before .before .before .before .before .before .before in
+    let e = stepped (c .before .before .before) in
     omega (arith, inside (found-at e), more e _ (c .before .a .given .1) .1)
 
 loop-again : tie.Need-loop-again Inv-loop μ-loop
-loop-again c = more (c .before .before .before .before .before .before .before .before .before .before .before) _ (c .before .a .given .1) .0
+loop-again c = more (stepped (c .before .before .before)) _ (c .before .a .given .1) .0
 
 enum-known-a-2 : tie.Need-enum-known-a-2 Inv-loop μ-loop
 enum-known-a-2 c = search needs
 
 add-t32 : tie.Need-add-t32 Inv-loop μ-loop
 add-t32 c =
-    let e = c .before .before .before .before .before .before .before .before .before .before .before .before in
+    let e = stepped (c .before .before .before .before) in
     omega (arith, inside (found-at e) .1, call (head (found-at e)) .pre .0 .0)
 
 same-length-5 : tie.Need-same-length-5 Inv-loop μ-loop
-same-length-5 c = sym (all-kept (c .before .before .before .before .before .before .before .before .before .before .before .before) .rows)
+same-length-5 c = sym (all-kept (stepped (c .before .before .before .before)) .rows)
 
 same-length-6 : tie.Need-same-length-6 Inv-loop μ-loop
-same-length-6 c = sym (all-kept (c .before .before .before .before .before .before .before .before .before .before .before .before) .stack)
+same-length-6 c = sym (all-kept (stepped (c .before .before .before .before)) .stack)
 
 same-length-7 : tie.Need-same-length-7 Inv-loop μ-loop
-same-length-7 c = sym (all-kept (c .before .before .before .before .before .before .before .before .before .before .before .before) .marks)
+same-length-7 c = sym (all-kept (stepped (c .before .before .before .before)) .marks)
 
 same-length-8 : tie.Need-same-length-8 Inv-loop μ-loop
-same-length-8 c = sym (all-kept (c .before .before .before .before .before .before .before .before .before .before .before .before) .registers)
+same-length-8 c = sym (all-kept (stepped (c .before .before .before .before)) .registers)
 
 returns-2 : tie.Need-returns-2 Inv-loop μ-loop
-returns-2 c =
-    let e = c .before .before .before .before .before .before .before .before .before .before .before .before in
-    done _ _ _ _ (kept e) _ _ (going (found-at e)) (first (found-at e)) _ (rw (c .before .before .a2 .given .1) at (e .step .ensures))
+returns-2 c = ends (stepped (c .before .before .before .before)) _ (c .before .before .a2 .given .1)
 
 enum-known-a-3 : tie.Need-enum-known-a-3 Inv-loop μ-loop
 enum-known-a-3 c = search needs
 
 same-length-9 : tie.Need-same-length-9 Inv-loop μ-loop
-same-length-9 c = sym (all-kept (c .before .before .before .before .before .before .before .before .before .before .before) .rows)
+same-length-9 c = sym (all-kept (stepped (c .before .before .before)) .rows)
 
 same-length-10 : tie.Need-same-length-10 Inv-loop μ-loop
-same-length-10 c = sym (all-kept (c .before .before .before .before .before .before .before .before .before .before .before) .stack)
+same-length-10 c = sym (all-kept (stepped (c .before .before .before)) .stack)
 
 same-length-11 : tie.Need-same-length-11 Inv-loop μ-loop
-same-length-11 c = sym (all-kept (c .before .before .before .before .before .before .before .before .before .before .before) .marks)
+same-length-11 c = sym (all-kept (stepped (c .before .before .before)) .marks)
 
 same-length-12 : tie.Need-same-length-12 Inv-loop μ-loop
-same-length-12 c = sym (all-kept (c .before .before .before .before .before .before .before .before .before .before .before) .registers)
+same-length-12 c = sym (all-kept (stepped (c .before .before .before)) .registers)
 
 returns-3 : tie.Need-returns-3 Inv-loop μ-loop
-returns-3 c =
-    let e = c .before .before .before .before .before .before .before .before .before .before .before in
-    stopped _ _ _ _ (kept e) _ _ (going (found-at e)) (first (found-at e)) _ _ (rw (c .before .a3 .given .1) at (e .step .ensures)) _
+returns-3 c = refuses (stepped (c .before .before .before)) _ _ (c .before .a3 .given .1)
 
 pub run-spec : {M : Type 1} → statement M
 run-spec =

@@ -1,8 +1,8 @@
--- `decoder::settle` meets its contract: each table is cleared, the rows only after a refusal.
+-- `decoder::settle::settle` meets its contract: each table is cleared, the rows only after a refusal.
 use Rattle.decoder.proofs.Decodes.{settled-refused, settled-accepted}
 use borrow.Author.Needs.{needs}
-use Rattle.decoder.proofs.settle.Statement.{statement}
-use Rattle.decoder.proofs.settle.Tie as tie
+use Rattle.decoder.proofs.settle.settle.Statement.{statement}
+use Rattle.decoder.proofs.settle.settle.Tie as tie
 
 -- from each clearing back to the one before
 abbrev second : (c : tie.After-clear3) → tie.After-clear2

@@ -1,0 +1,23 @@
+//! The tables after a run.
+ghost use mathlib.Core.Path.{_≡_};
+ghost use Rattle.decoder.specs.Answers.{tables};
+ghost use Rattle.decoder.specs.Held.{settled};
+use crate::Decoded;
+
+// Clears the working memory, and on a refusal the rows too.
+pub(crate) fn settle(
+    rows: &mut [u32],
+    stack: &mut [u32],
+    marks: &mut [u32],
+    registers: &mut [u32],
+    answer: Decoded,
+)
+    ensures { λ r. ⌜ tables (now (rows .exit)) (now (stack .exit)) (now (marks .exit)) (now (registers .exit)) ≡ settled answer (tables (now (rows .entry)) (now (stack .entry)) (now (marks .entry)) (now (registers .entry))) ⌝ }
+{
+    table::clear(stack);
+    table::clear(marks);
+    table::clear(registers);
+    if let Decoded::Refused(_, _) = answer {
+        table::clear(rows);
+    }
+}
