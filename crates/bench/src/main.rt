@@ -17,9 +17,9 @@ fn number(n: u64) {
 }
 
 // A row on a line of its own, its number first.
-fn show_row(n: u32, words: RowWords) {
+fn show_row(n: Row, words: RowWords) {
     text(b" ");
-    number(n as u64);
+    number(n.0 as u64);
     text(b":");
     number(words.kind as u64);
     number(words.first as u64);
@@ -30,7 +30,7 @@ fn show_row(n: u32, words: RowWords) {
 
 fn show_rows(rows: &[u32], used: u32) {
     for n in 0..used {
-        show_row(n, table::load_row(rows, Row(n)));
+        show_row(Row(n), table::load_row(rows, Row(n)));
     }
 }
 

@@ -1,10 +1,10 @@
-//! `&`: an item before a list.
+//! `#` and `&`: the empty list, and an item before a list.
 ghost use mathlib.Core.Path.{_≡_};
 ghost use mathlib.Core.List.{List};
 ghost use Prim.Native.Nat.{ℕ, _≤_, _<_};
 ghost use lib.ListN.{length};
 ghost use Rattle.format.specs.Bound.{messageBound};
-ghost use Rattle.format.specs.Lex.{ampersandItem};
+ghost use Rattle.format.specs.Lex.{hashItem, ampersandItem};
 ghost use Rattle.format.specs.Rows.{isListKind};
 ghost use Rattle.table.specs.Words.{rowIn};
 ghost use Rattle.decoder.specs.Answers.{tables};
@@ -19,6 +19,28 @@ use format::Row;
 use format::kind;
 use format::refusal;
 use table::RowWords;
+
+// `#`: the empty list.
+pub(crate) fn nil_item(rows: &mut [u32], stack: &mut [u32], s: State) -> Answer
+    requires { ⌜ s .at .0 < messageBound ⌝ }
+    ensures { λ r. ⌜ ((marks registers rest : List ℕ) → Ready (tables (now (rows .entry)) (now (stack .entry)) marks registers) s → turn r (tables (now (rows .exit)) (now (stack .exit)) marks registers) ≡ taken (tables (now (rows .entry)) (now (stack .entry)) marks registers) s rest hashItem) ⌝ }
+{
+    let p = s.at.0;
+    let depth = s.depth;
+    value::push_value(
+        rows,
+        stack,
+        s,
+        depth,
+        Offset(p + 1),
+        RowWords {
+            kind: kind::NIL,
+            first: 0,
+            second: 0,
+            third: 0,
+        },
+    )
+}
 
 // Whether row v is a list.
 fn is_list(rows: &[u32], v: Row) -> bool

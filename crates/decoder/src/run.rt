@@ -2,10 +2,11 @@
 ghost use mathlib.Core.List.{List};
 ghost use mathlib.Core.Path.{_≡_};
 ghost use Prim.Native.Nat.{ℕ, _+_, _≤_, _<_};
-ghost use lib.ListN.{length, drop};
-ghost use Rattle.format.specs.Answer.{limitsOf, zeroed};
+ghost use lib.ListN.{length, drop, getD};
+ghost use Rattle.format.specs.Answer.{Tables, limitsOf, zeroed};
 ghost use Rattle.format.specs.Bound.{messageBound, registerWords};
-ghost use Rattle.format.specs.Lex.{lex, endItem};
+ghost use Rattle.format.specs.Byte.{classOf, classCode};
+ghost use Rattle.format.specs.Lex.{whiteItem, endItem, lex};
 ghost use Rattle.format.specs.Machine as M;
 ghost use Rattle.format.specs.Rows.{rowValues};
 ghost use Rattle.decoder.specs.Answers.{tables};
@@ -20,7 +21,6 @@ use crate::state::Answer;
 use crate::state::State;
 use crate::text;
 use crate::tuple;
-use crate::value;
 use format::Depth;
 use format::Offset;
 use format::Row;
@@ -30,11 +30,25 @@ use format::refusal;
 use lexer::integer::Begun;
 use lexer::white;
 use lexer::white::Next;
-use table::RowWords;
 
 const ATOM_QUOTE: u8 = 39;
 
 const STRING_QUOTE: u8 = 34;
+
+// White space: nothing but the place changes.
+fn white_item(s: State) -> Answer
+    requires { ⌜ s .at .0 < messageBound ⌝ }
+    ensures { λ r. ⌜ ((t : Tables) (rest : List ℕ) → Ready t s → turn r t ≡ taken t s rest whiteItem) ⌝ }
+{
+    let next = s.next;
+    let depth = s.depth;
+    Answer::More(State {
+        at: Offset(s.at.0 + 1),
+        next,
+        depth,
+        marks: s.marks,
+    })
+}
 
 // `$`: the one value, with no mark noted.
 fn end_item(stack: &[u32], s: State) -> Answer
@@ -52,8 +66,9 @@ fn end_item(stack: &[u32], s: State) -> Answer
     Answer::Done(state::top(stack, depth))
 }
 
-// One item, whose first byte is b.
+// One item, whose first byte is b. `classes` is the class table.
 fn step(
+    classes: &[u8; 256],
     message: &[u8],
     rows: &mut [u32],
     stack: &mut [u32],
@@ -64,20 +79,14 @@ fn step(
 ) -> Answer
     requires { ⌜ (s .at .0 < length (now message)) × (length (now message) ≤ messageBound) ⌝ }
     requires { ⌜ Ready (tables (now rows) (now stack) (now marks) (now registers)) s ⌝ }
+    requires { ⌜ getD (now classes) b 0 ≡ classCode (classOf b) ⌝ }
     ensures { λ r. ⌜ turn r (tables (now (rows .exit)) (now (stack .exit)) (now (marks .exit)) (now (registers .exit))) ≡ taken (tables (now (rows .entry)) (now (stack .entry)) (now (marks .entry)) (now (registers .entry))) s (drop (s .at .0 + 1) (now (message .entry))) (lex b (drop (s .at .0 + 1) (now (message .entry)))) ⌝ }
 {
     let at = s.at;
-    let p = at.0;
-    let next = s.next;
-    let depth = s.depth;
-    let k = class::class_of(b);
+    let i = b as usize;
+    let k = classes[i];
     match k {
-        class::WHITE => Answer::More(State {
-            at: Offset(p + 1),
-            next,
-            depth,
-            marks: s.marks,
-        }),
+        class::WHITE => white_item(s),
         class::DIGIT => number::integer_item(
             message,
             rows,
@@ -95,19 +104,7 @@ fn step(
         class::LEFT_BRACE => tuple::open_item(marks, s),
         class::RIGHT_BRACE => tuple::close_item(rows, stack, marks, s),
         class::TILDE => binary::binary_item(message, rows, stack, marks, s),
-        class::HASH => value::push_value(
-            rows,
-            stack,
-            s,
-            depth,
-            Offset(p + 1),
-            RowWords {
-                kind: kind::NIL,
-                first: 0,
-                second: 0,
-                third: 0,
-            },
-        ),
+        class::HASH => list::nil_item(rows, stack, s),
         class::AMPERSAND => list::cons_item(rows, stack, marks, s),
         class::DOLLAR => end_item(stack, s),
         class::GREATER => register::store_item(message, stack, marks, registers, s),
@@ -128,6 +125,7 @@ pub(crate) fn run(
     requires { ⌜ (now rows ≡ zeroed (now rows)) × (now registers ≡ zeroed (now registers)) ⌝ }
     ensures { λ r. ⌜ leftAs r (now (rows .exit)) ≡ leftBy (now (rows .entry)) (M.run rowValues (limitsOf (tables (now (rows .entry)) (now (stack .entry)) (now (marks .entry)) (now (registers .entry)))) (now (message .entry))) ⌝ }
 {
+    let classes = class::classes();
     let mut s = State {
         at: Offset(0),
         next: Row(0),
@@ -148,7 +146,7 @@ pub(crate) fn run(
             depth,
             marks: s.marks,
         };
-        let a = step(message, rows, stack, marks, registers, here, b);
+        let a = step(&classes, message, rows, stack, marks, registers, here, b);
         match a {
             Answer::More(after) => {
                 s = after;

@@ -1,6 +1,9 @@
 //! The class of each byte (01, 'Bytes and items').
 ghost use mathlib.Core.Path.{_≡_};
-ghost use Rattle.format.specs.Byte.{classOf, classCode};
+ghost use Prim.Native.Nat.{ℕ, _<_};
+ghost use lib.ListN.{getD};
+ghost use Rattle.format.specs.Byte as B;
+ghost use Rattle.format.specs.Byte.{classOf, classCode, hasClass};
 
 // The classes, numbered as `classCode` does.
 pub const WHITE: u8 = 0;
@@ -35,8 +38,19 @@ pub const COMMA: u8 = 14;
 
 pub const REGISTER: u8 = 15;
 
-// The first digit.
+// The first and the last digit.
 pub const ZERO: u8 = 48;
+
+const NINE: u8 = 57;
+
+// The white bytes.
+const BLANK: u8 = 32;
+
+const TAB: u8 = 9;
+
+const NEWLINE: u8 = 10;
+
+const RETURN: u8 = 13;
 
 // Byte by byte, from 0.
 const CLASSES: [u8; 256] = [
@@ -304,4 +318,37 @@ pub fn class_of(b: u8) -> u8
 {
     let i = b as usize;
     CLASSES[i]
+}
+
+// The whole table, for a loop that looks up a class for each item: an index into the constant writes the table out anew.
+pub fn classes() -> [u8; 256]
+    ensures { λ r. ⌜ ((b : ℕ) → b < 256 → getD r b 0 ≡ classCode (classOf b)) ⌝ }
+{
+    CLASSES
+}
+
+// Whether a byte is white, by comparisons: for loops over single bytes.
+pub fn is_white(b: u8) -> bool
+    ensures { λ r. ⌜ r ≡ hasClass B.white b ⌝ }
+{
+    if b == BLANK {
+        return true;
+    }
+    if b == NEWLINE {
+        return true;
+    }
+    if b == TAB {
+        return true;
+    }
+    b == RETURN
+}
+
+// Whether a byte is a digit, by comparisons.
+pub fn is_digit(b: u8) -> bool
+    ensures { λ r. ⌜ r ≡ hasClass B.digit b ⌝ }
+{
+    if b < ZERO {
+        return false;
+    }
+    b <= NINE
 }

@@ -64,7 +64,7 @@ fn read_digits(message: &[u8], from: Offset, v: u64) -> Digits
     while i < message.len() {
         let b = message[i];
         let next = i + 1;
-        if class::class_of(b) != class::DIGIT {
+        if !class::is_digit(b) {
             return Digits::Value(value, Offset(i));
         }
         value = shifted(value, (b - class::ZERO) as u64);
@@ -109,7 +109,7 @@ pub fn read_integer(message: &[u8], from: Offset, begun: Begun) -> Integer
                 return Integer::Ended(Begun::Minus);
             }
             let b = message[i];
-            if class::class_of(b) != class::DIGIT {
+            if !class::is_digit(b) {
                 return Integer::Stray(from);
             }
             signed(

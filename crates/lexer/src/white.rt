@@ -19,7 +19,7 @@ pub fn next_byte(message: &[u8], from: Offset) -> Next
     while i < message.len() {
         let b = message[i];
         let next = i + 1;
-        if class::class_of(b) != class::WHITE {
+        if !class::is_white(b) {
             return Next::Byte(b, Offset(i));
         }
         i = next;

@@ -25,23 +25,23 @@ use Rattle.decoder.proofs.run.run.Statement.{statement}
 use Rattle.decoder.proofs.run.run.Tie as tie
 
 abbrev Inv-loop : tie.InvT-loop
-Inv-loop message rows₀ stack₀ marks₀ registers₀ s₀ rows stack marks registers s = Going message (tables rows₀ stack₀ marks₀ registers₀) (tables rows stack marks registers) s
+Inv-loop message rows₀ stack₀ marks₀ registers₀ classes s₀ rows stack marks registers s = Going message (tables rows₀ stack₀ marks₀ registers₀) (tables rows stack marks registers) s
 
 abbrev μ-loop : tie.MeasureT-loop
-μ-loop message rows₀ stack₀ marks₀ registers₀ s₀ rows stack marks registers s = length message - s .at .0
+μ-loop message rows₀ stack₀ marks₀ registers₀ classes s₀ rows stack marks registers s = length message - s .at .0
 
 -- back to the step, to where the byte was found, to the loop's head, and to the call
 abbrev stepped : (c : tie.After-slice-known8 Inv-loop μ-loop) → tie.After-step Inv-loop μ-loop
 stepped c = c .before .before .before .before .before .before .before .before
 
 abbrev found-at : (c : tie.After-step Inv-loop μ-loop) → tie.After-q Inv-loop μ-loop
-found-at c = c .before .before .before .before .before .before .before .before
+found-at c = c .before .before .before .before .before .before .before .before .before
 
 abbrev head : (c : tie.After-q Inv-loop μ-loop) → tie.At-loop Inv-loop μ-loop
 head c = c .before .before .before .before
 
 abbrev call : (c : tie.At-loop Inv-loop μ-loop) → tie.Start Inv-loop μ-loop
-call c = c .before .before .before .before .before .before
+call c = c .before .before .before .before .before .before .before
 
 -- the tables lent, those at the loop's head, and those that the step leaves; the state at the item's first byte
 abbrev lent : (c : tie.At-loop Inv-loop μ-loop) → Tables
@@ -51,7 +51,7 @@ abbrev held : (c : tie.At-loop Inv-loop μ-loop) → Tables
 held c = tables (c .loop .rows) (c .loop .stack) (c .loop .marks) (c .loop .registers)
 
 abbrev left : (c : tie.After-step Inv-loop μ-loop) → Tables
-left c = tables (c .step .last .1 .0) (c .step .last .1 .1 .0) (c .step .last .1 .1 .1 .0) (c .step .last .1 .1 .1 .1 .0)
+left c = tables (c .step .last .1 .1 .0) (c .step .last .1 .1 .1 .0) (c .step .last .1 .1 .1 .1 .0) (c .step .last .1 .1 .1 .1 .1 .0)
 
 abbrev here : (c : tie.After-q Inv-loop μ-loop) → State
 here c = placed (head c .loop .s) (c .q .given .0 .1 .0)
@@ -71,7 +71,7 @@ first c = byte-here _ _ _ _ (head c .loop .inv) _ _ (found c)
 
 -- no table has another length
 kept : (c : tie.After-step Inv-loop μ-loop) → SameLengths (held (head (found-at c))) (left c)
-kept c = record { rows = sym (c .step .kept .1 .0); stack = sym (c .step .kept .1 .1 .0); marks = sym (c .step .kept .1 .1 .1 .0); registers = sym (c .step .kept .1 .1 .1 .1 .0) }
+kept c = record { rows = sym (c .step .kept .1 .1 .0); stack = sym (c .step .kept .1 .1 .1 .0); marks = sym (c .step .kept .1 .1 .1 .1 .0); registers = sym (c .step .kept .1 .1 .1 .1 .1 .0) }
 
 all-kept : (c : tie.After-step Inv-loop μ-loop) → SameLengths (lent (head (found-at c))) (left c)
 all-kept c = chain (head (found-at c) .loop .inv .same) (kept c)
@@ -92,8 +92,13 @@ refuses : (c : tie.After-step Inv-loop μ-loop) (n : ℕ) (p : Offset) → c .st
     ≡ leftBy (lent (head (found-at c)) .rows) (run rowValues (limitsOf (lent (head (found-at c)))) (now (call (head (found-at c)) .args .message)))
 refuses c n p e = stopped _ _ _ _ (kept c) _ _ (going (found-at c)) (first (found-at c)) n p (rw e at (c .step .ensures)) _
 
+classes-requires : tie.Need-classes-requires Inv-loop μ-loop
+classes-requires c κs = search needs
+
 loop-holds : tie.Need-loop-holds Inv-loop μ-loop
-loop-holds c = starts _ _ (c .before .before .before .before .before .pre .1 .0) (c .before .before .before .before .before .pre .1 .1) (c .before .before .before .before .before .pre .0 .1)
+loop-holds c =
+    let p = c .before .before .before .before .before .before .pre in
+    starts _ _ (p .1 .0) (p .1 .1) (p .0 .1)
 
 next-byte-requires : tie.Need-next-byte-requires Inv-loop μ-loop
 next-byte-requires c κs = search needs
@@ -121,8 +126,8 @@ returns c = over _ _ _ _ (c .before .before .before .before .loop .inv) (sym (c 
 
 step-requires : tie.Need-step-requires Inv-loop μ-loop
 step-requires c κs =
-    let e = c .before .before .before .before .before .before .before in
-    ((inside e .1, call (head e) .pre .0 .0), going e .before .ready)
+    let e = c .before .before .before .before .before .before .before .before in
+    ((inside e .1, call (head e) .pre .0 .0), (going e .before .ready, head e .before .classes .ensures _ (search needs)))
 
 enum-known-a : tie.Need-enum-known-a Inv-loop μ-loop
 enum-known-a c = search needs
@@ -138,8 +143,8 @@ loop-again c = more (stepped (c .before .before .before)) _ (c .before .a .given
 enum-known-a-2 : tie.Need-enum-known-a-2 Inv-loop μ-loop
 enum-known-a-2 c = search needs
 
-add-t32 : tie.Need-add-t32 Inv-loop μ-loop
-add-t32 c =
+add-t35 : tie.Need-add-t35 Inv-loop μ-loop
+add-t35 c =
     let e = stepped (c .before .before .before .before) in
     omega (arith, inside (found-at e) .1, call (head (found-at e)) .pre .0 .0)
 
@@ -182,6 +187,7 @@ run-spec =
     (tie.spec
     Inv-loop
     μ-loop
+    classes-requires
     loop-holds
     next-byte-requires
     enum-known-q
@@ -196,7 +202,7 @@ run-spec =
     loop-less
     loop-again
     enum-known-a-2
-    add-t32
+    add-t35
     same-length-5
     same-length-6
     same-length-7

@@ -2,7 +2,7 @@
 use Prim.Native.Nat.{_+_}
 use mathlib.Core.Path.{_≡_, sym, _∙_}
 use native.Mathlib.Omega.{arith}
-use lib.ListN.{drop}
+use lib.ListN.{drop, getD}
 use denote.Ref.{now}
 use Rattle.format.specs.Byte as B
 use Rattle.format.specs.Byte.{Class, classOf, classCode}
@@ -14,37 +14,39 @@ use Rattle.decoder.specs.Held.{Ready}
 use Rattle.decoder.specs.Readers.{begunItem}
 use Rattle.decoder.proofs.Classes.{lex-of, only-comma}
 use Rattle.decoder.proofs.Spans.{atoms, strings}
-use Rattle.decoder.proofs.Steps.{white, stray}
-use Rattle.decoder.proofs.Binaries.{nil-made}
+use Rattle.decoder.proofs.Steps.{stray}
 use borrow.Author.Needs.{needs}
 use Rattle.decoder.proofs.run.step.Statement.{statement}
 use Rattle.decoder.proofs.run.step.Tie as tie
 
-abbrev call : (c : tie.After-class-of) → tie.Start
-call c = c .before .before .before .before .before .before .before .before .before
+abbrev call : (c : tie.After-k) → tie.Start
+call c = c .before .before .before .before .before .before .before
 
-ready : (c : tie.After-class-of)
-    → Ready (tables (now (call c .args .rows)) (now (call c .args .stack)) (now (call c .args .marks)) (now (call c .args .registers))) (call c .args .s)
-ready c = call c .pre .1
+ready : (c : tie.After-k) → Ready (tables (now (call c .args .rows)) (now (call c .args .stack)) (now (call c .args .marks)) (now (call c .args .registers))) (call c .args .s)
+ready c = call c .pre .1 .0
+
+-- what the table holds for the first byte
+rule : (c : tie.After-k) → getD (now (call c .args .classes)) (call c .args .b) 0 ≡ classCode (classOf (call c .args .b))
+rule c = call c .pre .1 .1
 
 -- the item that a class's number stands for
-item : (c : tie.After-class-of) (k : Class) → c .class-of .result ≡ classCode k
+item : (c : tie.After-k) (k : Class) → getD (now (call c .args .classes)) (call c .args .b) 0 ≡ classCode k
     → lex (call c .args .b) (drop (call c .args .s .at .0 + 1) (now (call c .args .message))) ≡ itemOf k (call c .args .b) (drop (call c .args .s .at .0 + 1) (now (call c .args .message)))
-item c k e = lex-of k _ _ (sym (c .class-of .ensures) ∙ e)
+item c k e = lex-of k _ _ (sym (rule c) ∙ e)
 
-class-of-requires : tie.Need-class-of-requires
-class-of-requires c κs = search needs
+element-copy-out-k : tie.Need-element-copy-out-k
+element-copy-out-k c = search needs
 
-add-t14 : tie.Need-add-t14
-add-t14 c = search needs
+white-item-requires : tie.Need-white-item-requires
+white-item-requires c κs = search needs
 
-sub-t21 : tie.Need-sub-t21
-sub-t21 c =
+sub-t20 : tie.Need-sub-t20
+sub-t20 c =
     let at = c .before .before .before in
-    omega (arith, digit-range _ (has B.digit _ (at .class-of .ensures) (c .before .before .match .keys2)) .0)
+    omega (arith, digit-range _ (has B.digit _ (rule at) (c .before .before .match .keys2)) .0)
 
-cast-t22 : tie.Need-cast-t22
-cast-t22 c = search needs
+cast-t21 : tie.Need-cast-t21
+cast-t21 c = search needs
 
 integer-item-requires : tie.Need-integer-item-requires
 integer-item-requires c κs = search needs
@@ -73,11 +75,8 @@ close-item-requires c κs = search needs
 binary-item-requires : tie.Need-binary-item-requires
 binary-item-requires c κs = search needs
 
-add-t61 : tie.Need-add-t61
-add-t61 c = search needs
-
-push-value-requires : tie.Need-push-value-requires
-push-value-requires c κs = search needs
+nil-item-requires : tie.Need-nil-item-requires
+nil-item-requires c κs = search needs
 
 cons-item-requires : tie.Need-cons-item-requires
 cons-item-requires c κs = search needs
@@ -96,8 +95,8 @@ push-item-requires c κs = search needs
 returns : tie.Need-returns
 unfolding itemOf
 returns c =
-    let at = c .before in
-    rw (item at B.white (c .match .keys1)) (white _ _ (ready at) _)
+    let at = c .before .before in
+    rw (item at B.white (c .before .match .keys1)) (c .white-item .ensures _ _ (ready at))
 
 same-length : tie.Need-same-length
 same-length c = search needs
@@ -217,7 +216,7 @@ returns-11 : tie.Need-returns-11
 unfolding itemOf
 returns-11 c =
     let at = c .before .before .before .before .before .before .before .before in
-    rw (item at B.hash (c .before .before .before .before .before .before .before .match .keys11)) (c .before .before .before .before .push-value .ensures _ _ 0 (ready at) (omega arith) (omega arith) ∙ nil-made _ _ _)
+    rw (item at B.hash (c .before .before .before .before .before .before .before .match .keys11)) (c .before .before .before .before .nil-item .ensures _ _ _ (ready at))
 
 same-length-21 : tie.Need-same-length-21
 same-length-21 c = search needs
@@ -274,16 +273,16 @@ returns-16 : tie.Need-returns-16
 unfolding itemOf
 returns-16 c =
     let at = c .before in
-    rw (item at B.comma (only-comma (classOf _) _ (at .class-of .ensures) (c .match .rest))) (stray _ _ _)
+    rw (item at B.comma (only-comma (classOf _) _ (rule at) (c .match .rest))) (stray _ _ _)
 
 pub step-spec : {M : Type 1} → statement M
 step-spec =
     tie.close
     (tie.spec
-    class-of-requires
-    add-t14
-    sub-t21
-    cast-t22
+    element-copy-out-k
+    white-item-requires
+    sub-t20
+    cast-t21
     integer-item-requires
     integer-item-requires-2
     quoted-item-requires
@@ -293,8 +292,7 @@ step-spec =
     open-item-requires
     close-item-requires
     binary-item-requires
-    add-t61
-    push-value-requires
+    nil-item-requires
     cons-item-requires
     end-item-requires
     store-item-requires

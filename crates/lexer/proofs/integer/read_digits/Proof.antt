@@ -2,13 +2,14 @@
 -- place on.
 use Prim.Native.Nat.{_-_}
 use mathlib.Core.Bool.{true}
-use mathlib.Core.Path.{_≡_}
+use mathlib.Core.Path.{_≡_, sym, _∙_}
 use native.Mathlib.Omega.{arith}
 use denote.Ref.{now}
 use lib.ListN.{length, getD}
+use borrow.Author.Tests.{not-true, not-false}
 use Rattle.format.specs.Byte as B
 use Rattle.format.specs.Byte.{hasClass}
-use Rattle.lexer.proofs.Bytes.{has, has-not, digit-range}
+use Rattle.lexer.proofs.Bytes.{digit-range}
 use Rattle.lexer.proofs.Runs as laws
 use Rattle.lexer.proofs.integer.read_digits.Statement.{statement}
 use Rattle.lexer.proofs.integer.read_digits.Tie as tie
@@ -21,7 +22,7 @@ abbrev μ-loop : tie.MeasureT-loop
 
 -- past the test of its class the byte is a digit
 digit : (c : tie.Else1 Inv-loop μ-loop) → (let at = c .before .before .before .before in hasClass B.digit (getD (now (at .before .before .before .args .message)) (at .loop .i) 0) ≡ true)
-digit c = has B.digit _ (c .before .class-of .ensures) (c .if1 .left)
+digit c = sym (c .before .is-digit .ensures) ∙ not-false _ (c .if1 .left)
 
 capped-requires : tie.Need-capped-requires Inv-loop μ-loop
 capped-requires c κs = tt
@@ -35,13 +36,13 @@ shared-slice-read-b c = omega arith
 add-next : tie.Need-add-next Inv-loop μ-loop
 add-next c = omega arith
 
-class-of-requires : tie.Need-class-of-requires Inv-loop μ-loop
-class-of-requires c κs = tt
+is-digit-requires : tie.Need-is-digit-requires Inv-loop μ-loop
+is-digit-requires c κs = tt
 
 returns : tie.Need-returns Inv-loop μ-loop
 returns c =
     let turn = c .before .before .before in
-    laws.stops _ _ (turn .before .loop .inv) (turn .loop-test .taken) (has-not B.digit _ (c .before .class-of .ensures) (c .if1 .taken))
+    laws.stops _ _ (turn .before .loop .inv) (turn .loop-test .taken) (sym (c .before .is-digit .ensures) ∙ not-true _ (c .if1 .taken))
 
 sub-shifted : tie.Need-sub-shifted Inv-loop μ-loop
 sub-shifted c = omega (arith, digit-range _ (digit c))
@@ -73,7 +74,7 @@ read-digits-spec =
     loop-holds
     shared-slice-read-b
     add-next
-    class-of-requires
+    is-digit-requires
     returns
     sub-shifted
     cast-shifted

@@ -1,9 +1,9 @@
 -- `lexer::integer::read_integer` meets its contract: after a minus the digits are read one byte further on, which their count makes up for.
-use mathlib.Core.Path.{sym}
+use mathlib.Core.Path.{sym, _∙_}
 use native.Mathlib.Omega.{arith}
 use borrow.Author.Needs.{needs}
-use Rattle.format.specs.Byte as B
-use Rattle.lexer.proofs.Bytes.{has, has-not, digit-range}
+use borrow.Author.Tests.{not-true, not-false}
+use Rattle.lexer.proofs.Bytes.{digit-range}
 use Rattle.lexer.proofs.Integers as laws
 use Rattle.lexer.proofs.integer.read_integer.Statement.{statement}
 use Rattle.lexer.proofs.integer.read_integer.Tie as tie
@@ -26,22 +26,22 @@ returns c = sym (laws.ends _ _ (c .before .enum-told .given .1) (c .if1 .taken))
 shared-slice-read-b : tie.Need-shared-slice-read-b
 shared-slice-read-b c = search needs
 
-class-of-requires : tie.Need-class-of-requires
-class-of-requires c κs = search needs
+is-digit-requires : tie.Need-is-digit-requires
+is-digit-requires c κs = search needs
 
 returns-2 : tie.Need-returns-2
 returns-2 c =
     let at = c .before .before .before in
-    sym (laws.strays _ _ (at .before .enum-told .given .1) (at .if1 .left) (has-not B.digit _ (c .before .class-of .ensures) (c .if2 .taken)))
+    sym (laws.strays _ _ (at .before .enum-told .given .1) (at .if1 .left) (sym (c .before .is-digit .ensures) ∙ not-true _ (c .if2 .taken)))
 
 add-t10 : tie.Need-add-t10
 add-t10 c = search needs
 
 sub-read-digits : tie.Need-sub-read-digits
-sub-read-digits c = omega (arith, digit-range _ (has B.digit _ (c .before .class-of .ensures) (c .if2 .left)))
+sub-read-digits c = omega (arith, digit-range _ (sym (c .before .is-digit .ensures) ∙ not-false _ (c .if2 .left)))
 
 cast-read-digits : tie.Need-cast-read-digits
-cast-read-digits c = omega (arith, digit-range _ (has B.digit _ (c .before .class-of .ensures) (c .if2 .left)))
+cast-read-digits c = omega (arith, digit-range _ (sym (c .before .is-digit .ensures) ∙ not-false _ (c .if2 .left)))
 
 read-digits-requires-2 : tie.Need-read-digits-requires-2
 read-digits-requires-2 c κs = search needs
@@ -56,7 +56,7 @@ returns-4 : tie.Need-returns-4
 returns-4 c =
     let digit = c .before .before in
     let at = digit .before .before .before in
-    laws.minus-on _ _ (at .before .enum-told .given .1) (at .if1 .left) (has B.digit _ (digit .before .class-of .ensures) (digit .if2 .left)) (c .before .read-digits2 .ensures) (c .signed2 .ensures)
+    laws.minus-on _ _ (at .before .enum-told .given .1) (at .if1 .left) (sym (digit .before .is-digit .ensures) ∙ not-false _ (digit .if2 .left)) (c .before .read-digits2 .ensures) (c .signed2 .ensures)
 
 pub read-integer-spec : {M : Type 1} → statement M
 read-integer-spec =
@@ -68,7 +68,7 @@ read-integer-spec =
     enum-told
     returns
     shared-slice-read-b
-    class-of-requires
+    is-digit-requires
     returns-2
     add-t10
     sub-read-digits

@@ -3,9 +3,8 @@ use Prim.Native.Nat.{_-_}
 use mathlib.Core.Path.{_≡_, refl, sym, _∙_}
 use native.Mathlib.Omega.{arith}
 use lib.ListN.{length, drop}
-use Rattle.format.specs.Byte as B
+use borrow.Author.Tests.{not-true, not-false}
 use Rattle.lexer.specs.White.{nextFrom}
-use Rattle.lexer.proofs.Bytes.{has, has-not}
 use Rattle.lexer.proofs.Spaces as laws
 use Rattle.lexer.proofs.white.next_byte.Statement.{statement}
 use Rattle.lexer.proofs.white.next_byte.Tie as tie
@@ -25,13 +24,13 @@ shared-slice-read-b c = omega arith
 add-next : tie.Need-add-next Inv-loop μ-loop
 add-next c = omega arith
 
-class-of-requires : tie.Need-class-of-requires Inv-loop μ-loop
-class-of-requires c κs = tt
+is-white-requires : tie.Need-is-white-requires Inv-loop μ-loop
+is-white-requires c κs = tt
 
 returns : tie.Need-returns Inv-loop μ-loop
 returns c =
     let turn = c .before .before .before in
-    sym (laws.stops _ _ (turn .loop-test .taken) (has-not B.white _ (c .before .class-of .ensures) (c .if1 .taken))) ∙ turn .before .loop .inv
+    sym (laws.stops _ _ (turn .loop-test .taken) (sym (c .before .is-white .ensures) ∙ not-true _ (c .if1 .taken))) ∙ turn .before .loop .inv
 
 loop-less : tie.Need-loop-less Inv-loop μ-loop
 loop-less c = omega arith
@@ -39,7 +38,7 @@ loop-less c = omega arith
 loop-again : tie.Need-loop-again Inv-loop μ-loop
 loop-again c =
     let turn = c .before .before .before in
-    sym (laws.passes _ _ (turn .loop-test .taken) (has B.white _ (c .before .class-of .ensures) (c .if1 .left))) ∙ turn .before .loop .inv
+    sym (laws.passes _ _ (turn .loop-test .taken) (sym (c .before .is-white .ensures) ∙ not-false _ (c .if1 .left))) ∙ turn .before .loop .inv
 
 returns-2 : tie.Need-returns-2 Inv-loop μ-loop
 returns-2 c = sym (laws.ends _ _ (c .loop-test .left)) ∙ c .before .loop .inv
@@ -53,7 +52,7 @@ next-byte-spec =
     loop-holds
     shared-slice-read-b
     add-next
-    class-of-requires
+    is-white-requires
     returns
     loop-less
     loop-again

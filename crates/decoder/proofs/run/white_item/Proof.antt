@@ -1,0 +1,14 @@
+-- `decoder::run::white_item` meets its contract.
+use Rattle.decoder.proofs.Steps.{white}
+use borrow.Author.Needs.{needs}
+use Rattle.decoder.proofs.run.white_item.Statement.{statement}
+use Rattle.decoder.proofs.run.white_item.Tie as tie
+
+add-t4 : tie.Need-add-t4
+add-t4 c = search needs
+
+returns : tie.Need-returns
+returns c t r h = white t _ h r
+
+pub white-item-spec : {M : Type 1} → statement M
+white-item-spec = tie.close (tie.spec add-t4 returns)
