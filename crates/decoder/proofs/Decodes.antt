@@ -10,10 +10,9 @@ use Rattle.format.specs.Bound.{messageBound, registerWords}
 use Rattle.format.specs.Machine as M
 use Rattle.format.specs.Machine.{Outcome, Result, refused, accepted}
 use Rattle.format.specs.Rows.{Row, rowValues, rowRoom, wordsOf}
-use Rattle.format.specs.Answer.{Tables, overBound, zeroed, limitsOf, rowsIn, cleared, decodeResult, decodeAnswer}
+use Rattle.format.specs.Answer.{Tables, overBound, zeroed, limitsOf, rowsIn, cleared, decodeResult, decodeAnswer, SameLengths}
 use Rattle.format.specs.declared.Offset.{Offset}
 use Rattle.format.specs.declared.Row.{Row as RowNumber}
-use Rattle.format.proofs.Unchanged.{SameLengths}
 use Rattle.decoder.specs.declared.Decoded.{Decoded}
 use Rattle.decoder.specs.declared.Decoded.the-variants.{Accepted, Refused}
 use Rattle.decoder.specs.Answers.{tables, decodedAs}

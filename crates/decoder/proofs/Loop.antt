@@ -10,10 +10,10 @@ use Rattle.format.specs.Lex.{lex}
 use Rattle.format.specs.Machine as M
 use Rattle.format.specs.Machine.{runFrom}
 use Rattle.format.specs.Rows.{rowValues}
-use Rattle.format.specs.Answer.{Tables, zeroed, limitsOf, rowsIn}
+use Rattle.format.specs.Answer.{Tables, zeroed, limitsOf, rowsIn, SameLengths}
 use Rattle.format.specs.declared.Offset.{Offset}
 use Rattle.format.specs.declared.Row.{Row as RowNumber}
-use Rattle.format.proofs.Unchanged.{SameLengths, same-limits}
+use Rattle.format.proofs.Unchanged.{same-limits}
 use Rattle.lexer.specs.White.{nextFrom}
 use Rattle.lexer.specs.declared.white.Next.the-variants.{Byte, Ended}
 use Rattle.decoder.specs.declared.Decoded.the-variants as Decoded

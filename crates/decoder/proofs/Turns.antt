@@ -15,7 +15,7 @@ use Rattle.format.specs.Lex.{lex}
 use Rattle.format.specs.Machine as M
 use Rattle.format.specs.Machine.{Machine, Limits, Step, Outcome, Result, refuse, go, finish, refused, accepted, bounded, step, follow, runFrom}
 use Rattle.format.specs.Rows.{rowValues, rowRoom, rowsOf, wordsOf}
-use Rattle.format.specs.Answer.{Tables, zeroed, limitsOf, rowsIn}
+use Rattle.format.specs.Answer.{Tables, zeroed, limitsOf, rowsIn, SameLengths}
 use Rattle.format.specs.declared.Offset.{Offset}
 use Rattle.format.specs.declared.Row.{Row as RowNumber}
 use Rattle.format.proofs.Items.{lex-ok}
@@ -23,7 +23,6 @@ use Rattle.format.proofs.Moves as Mv
 use Rattle.format.proofs.Moves.{move, Inside, inside}
 use Rattle.format.proofs.SoundRows.{Below, Kept, Accepted, keeps, start-kept}
 use Rattle.format.proofs.Decoded.{rows-in}
-use Rattle.format.proofs.Unchanged.{SameLengths}
 use Rattle.table.specs.Words.{lastFirst}
 use Rattle.table.proofs.Rows.{length-lastFirst, getD-zeros}
 use Rattle.decoder.specs.declared.state.State.{State}

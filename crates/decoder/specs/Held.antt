@@ -31,7 +31,7 @@ machineOf t s = record {
   memory = rowsOf (s .next .0) (t .rows);
 }
 
--- what holds before each item: zeros past the rows made, no table over its room, and row numbers on the stack
+-- what holds before each item: zeros past the rows made, no table over its room, and nothing on the stack past the bound of rows
 pub record Ready (t : Tables) (s : State) : Type 0 where
   pub rows : t .rows ≡ rowsIn (t .rows) (rowsOf (s .next .0) (t .rows))
   pub used : s .next .0 ≤ rowRoom (t .rows)

@@ -58,7 +58,7 @@ fn end_item(stack: &[u32], s: State) -> Answer
     let at = s.at;
     let depth = s.depth;
     if s.marks != 0 {
-        return Answer::Refused(refusal::MARKED, at);
+        return Answer::Refused(refusal::UNBALANCED, at);
     }
     if depth.0 != 1 {
         return Answer::Refused(refusal::DEPTH, at);

@@ -1,7 +1,7 @@
-//! Where the machine stands, and what the tables hold of it: the stack's top, the last mark, a register, room for one more.
+//! Where the machine stands, and what the tables hold of it: the stack's top, the last mark, room for one more.
 ghost use mathlib.Core.Path.{_≡_};
-ghost use Prim.Native.Nat.{_+_, _-_, _≤_, _<_, min};
-ghost use lib.ListN.{length, set, getD};
+ghost use Prim.Native.Nat.{_-_, _≤_, _<_, min};
+ghost use lib.ListN.{length, getD};
 ghost use Rattle.format.specs.Machine.{base};
 ghost use Rattle.table.specs.Words.{lastFirst};
 use format::Depth;

@@ -52,7 +52,7 @@ pub(crate) fn close_item(rows: &mut [u32], stack: &mut [u32], marks: &[u32], s: 
     let depth = s.depth;
     let noted = s.marks;
     if noted == 0 {
-        return Answer::Refused(refusal::MARKED, at);
+        return Answer::Refused(refusal::UNBALANCED, at);
     }
     let base = state::base(marks, noted);
     let low = base.0;

@@ -7,7 +7,7 @@ use mathlib.Core.List.{List, [], _++_}
 use native.Mathlib.Omega.{arith}
 use lib.ListN.{length}
 use lib.Dec.{ltb, T}
-use Rattle.format.specs.Bound.{messageBound, registerWords}
+use Rattle.format.specs.Bound.{registerWords}
 use Rattle.format.specs.Machine.{Outcome, Result, refused, accepted, run}
 use Rattle.format.specs.Meaning.{termValues, messageTerm}
 use Rattle.format.specs.Rows.{rowValues, rowsOf, termAt}
@@ -21,11 +21,11 @@ use Rattle.format.proofs.Simulation as S
 use Rattle.format.proofs.Simulation.{same-answer}
 use Rattle.format.proofs.SoundRows as R
 use Rattle.format.proofs.SoundRows.{accepted-rows}
-use Rattle.format.proofs.Unchanged.{SameLengths, unchanged}
+use Rattle.format.proofs.Unchanged.{unchanged}
 use Rattle.decoder.specs.declared.Decoded.{Decoded}
 use Rattle.decoder.specs.declared.Decoded.the-variants.{Accepted, Refused}
 use Rattle.decoder.specs.Answers.{decodedAs}
-use Rattle.demands.specs.Demand2.{inTerms, machineSays, DecodeMeans}
+use Rattle.demands.specs.Demand2.{inTerms, machineSays, DecodeMeans, NothingChanges}
 
 -- an accepted message has used a row
 some-row : (message : List ℕ) (t : Tables) → decodeAnswer message t .number ≡ 0 → 1 ≤ decodeAnswer message t .used
@@ -94,10 +94,7 @@ demand2 message t r u promise = record {
   sound = λ consumed root used e. its-table message t u consumed root used (rw e at promise);
 }
 
--- 01: if a message is accepted, changing bytes after its `$`, or the tables' old contents, changes nothing: x is what was consumed
-pub nothing-changes : (x y z : List ℕ) (t t′ : Tables) → SameLengths t t′ → length (x ++ z) ≤ messageBound
-    → (r r′ : Decoded) (u u′ : Tables) → decodedAs r u ≡ decodeAnswer (x ++ y) t → decodedAs r′ u′ ≡ decodeAnswer (x ++ z) t′
-    → (root : Row) (used : ℕ) → r ≡ Accepted (length x) root used → (r′ ≡ r) × (u′ ≡ u)
+pub nothing-changes : NothingChanges
 unfolding decodedAs decodeRefusal
 nothing-changes x y z t t′ s h r r′ u u′ first second root used e =
     let first′ : decodedAs (Accepted (length x) root used) u ≡ decodeAnswer (x ++ y) t = rw e at first in

@@ -1,19 +1,20 @@
 -- Demand 2, first half: a message is accepted with exactly the term that the stack machine gives it, under the limits,
 -- and each refusal comes exactly when its rule says.
-use Prim.Native.Nat.{ℕ}
+use Prim.Native.Nat.{ℕ, _≤_}
 use mathlib.Core.Path.{_≡_}
 use mathlib.Core.Bool.{cond}
 use mathlib.Core.Option.{some}
-use mathlib.Core.List.{List}
+use mathlib.Core.List.{List, _++_}
 use lib.ListN.{length}
 use lib.Dec.{ltb, T}
-use Rattle.format.specs.Bound.{registerWords}
+use Rattle.format.specs.Bound.{messageBound, registerWords}
 use Rattle.format.specs.Machine.{Outcome, Result, refused, accepted, run}
 use Rattle.format.specs.Meaning.{termValues, messageTerm}
 use Rattle.format.specs.Rows.{rowsOf, termAt}
 use Rattle.format.specs.Sound.{soundTable}
-use Rattle.format.specs.Answer.{Tables, overBound, limitsOf}
+use Rattle.format.specs.Answer.{Tables, overBound, limitsOf, decodeAnswer, SameLengths}
 use Rattle.format.specs.declared.Row.{Row}
+use Rattle.decoder.specs.Answers.{decodedAs}
 use Rattle.decoder.specs.declared.Decoded.{Decoded}
 use Rattle.decoder.specs.declared.Decoded.the-variants.{Accepted, Refused}
 
@@ -35,5 +36,13 @@ pub record DecodeMeans (message : List ℕ) (t : Tables) (r : Decoded) (u : Tabl
   pub machine : inTerms message r u ≡ machineSays message t
   -- that term is the message's by its bytes alone: no limit, no row, no table comes into it
   pub term : (consumed : ℕ) (root : Row) (used : ℕ) → r ≡ Accepted consumed root used → messageTerm message ≡ some (termAt message (rowsOf used (u .rows)) (root .0))
-  -- the table left behind is sound, and so no later function refuses it
+  -- the table left behind is sound, so that no later function refuses it with 16
   pub sound : (consumed : ℕ) (root : Row) (used : ℕ) → r ≡ Accepted consumed root used → T (soundTable message (u .rows) used (root .0))
+
+-- 01: if a message is accepted, changing bytes after its `$`, or the tables' old contents, changes nothing. The bytes x are consumed; `decode` answers r
+-- to x and y with the tables t, and r′ to x and z with the tables t′, and leaves u and u′
+abbrev pub NothingChanges : Type 0
+NothingChanges =
+    (x y z : List ℕ) (t t′ : Tables) → SameLengths t t′ → length (x ++ z) ≤ messageBound
+    → (r r′ : Decoded) (u u′ : Tables) → decodedAs r u ≡ decodeAnswer (x ++ y) t → decodedAs r′ u′ ≡ decodeAnswer (x ++ z) t′
+    → (root : Row) (used : ℕ) → r ≡ Accepted (length x) root used → (r′ ≡ r) × (u′ ≡ u)

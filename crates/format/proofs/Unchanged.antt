@@ -10,16 +10,9 @@ use borrow.Author.Tests.{le-ltb}
 use Rattle.format.specs.Bound.{messageBound, registerWords}
 use Rattle.format.specs.Machine.{Outcome, Result, refused, accepted, run}
 use Rattle.format.specs.Rows.{Row, rowValues, rowRoom}
-use Rattle.format.specs.Answer.{Tables, Decoded, overBound, zeroed, limitsOf, rowsIn, cleared, decodeRefusal, decodeResult, decodeAnswer}
+use Rattle.format.specs.Answer.{Tables, SameLengths, Decoded, overBound, zeroed, limitsOf, rowsIn, cleared, decodeRefusal, decodeResult, decodeAnswer}
 use Rattle.format.proofs.Decoded.{accepts}
 use Rattle.format.proofs.Suffix.{rest-unread}
-
--- tables of the same lengths
-pub record SameLengths (t t′ : Tables) : Type 0 where
-  pub rows : length (t .rows) ≡ length (t′ .rows)
-  pub stack : length (t .stack) ≡ length (t′ .stack)
-  pub marks : length (t .marks) ≡ length (t′ .marks)
-  pub registers : length (t .registers) ≡ length (t′ .registers)
 
 module _ (t t′ : Tables) (s : SameLengths t t′) where
   pub same-limits : limitsOf t ≡ limitsOf t′

@@ -1,6 +1,7 @@
 -- 01, 'Refusal numbers', 'Plain text' and 'Sensor words': for each public function its whole answer,
 -- the numbers given and the end contents of every buffer lent for writing, from what is lent and the numbers passed.
 use Prim.Native.Nat.{ℕ, _+_, _-_, min}
+use mathlib.Core.Path.{_≡_}
 use mathlib.Core.Bool.{Bool, _&&_, _||_, not, cond}
 use mathlib.Core.List.{List, [], _++_}
 use lib.ListN.{length, drop, replicate}
@@ -28,6 +29,13 @@ pub record Tables : Type 0 where
   pub stack : List ℕ
   pub marks : List ℕ
   pub registers : List ℕ
+
+-- tables of the same lengths
+pub record SameLengths (t t′ : Tables) : Type 0 where
+  pub rows : length (t .rows) ≡ length (t′ .rows)
+  pub stack : length (t .stack) ≡ length (t′ .stack)
+  pub marks : length (t .marks) ≡ length (t′ .marks)
+  pub registers : length (t .registers) ≡ length (t′ .registers)
 
 -- 0, bytes consumed, root, rows used; or a refusal's number, its place, 0, 0; and the tables at the end
 pub record Decoded : Type 0 where

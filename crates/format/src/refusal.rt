@@ -28,7 +28,7 @@ pub const NEGATIVE: u8 = 8;
 pub const EMPTY_REGISTER: u8 = 9;
 
 // `}` with no mark, `$` with one.
-pub const MARKED: u8 = 10;
+pub const UNBALANCED: u8 = 10;
 
 // `$` with a depth other than 1.
 pub const DEPTH: u8 = 11;

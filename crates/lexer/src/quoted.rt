@@ -4,9 +4,9 @@ ghost use lib.ListN.{drop};
 ghost use Rattle.lexer.specs.Quoted.{quotedFrom};
 use format::Offset;
 
-pub const BACKSLASH: u8 = 92;
+const BACKSLASH: u8 = 92;
 
-// How many bytes stand before the closing quote, with the place after it; a byte not allowed there; or the slice's end,
+// How many bytes were read before the closing quote, with the place after it; a byte not allowed there; or the slice's end,
 // and whether a backslash is the last byte read.
 pub enum Quoted {
     Closed(usize, Offset),

@@ -6,12 +6,11 @@ use native.Mathlib.Omega.{arith}
 use lib.ListN.{length, drop}
 use denote.Ref.{now}
 use borrow.Author.Needs.{needs}
-use Rattle.format.specs.Answer.{Tables, limitsOf}
+use Rattle.format.specs.Answer.{Tables, limitsOf, SameLengths}
 use Rattle.format.specs.Machine.{run}
 use Rattle.format.specs.Rows.{rowValues}
 use Rattle.format.specs.declared.Offset.{Offset}
 use Rattle.format.specs.declared.Row.{Row as RowNumber}
-use Rattle.format.proofs.Unchanged.{SameLengths}
 use Rattle.lexer.specs.White.{nextFrom}
 use Rattle.lexer.specs.declared.white.Next.the-variants.{Byte}
 use Rattle.decoder.specs.declared.Decoded.the-variants.{Accepted}
