@@ -95,7 +95,11 @@ unfoldable pub leftBy : List ℕ → Outcome (Result rowValues) → Outcome Left
 leftBy words (refused n p) = refused n p
 leftBy words (accepted consumed r) = accepted consumed (record { root = r .root; used = r .used; words = rowsIn words (r .memory) })
 
--- the tables after a run: only the rows of an accepted message are left
+-- the rows after a run: those of an accepted message are left
+abbrev pub settledRows : Decoded → List ℕ → List ℕ
+settledRows (Decoded.Accepted consumed root used) rows = rows
+settledRows (Decoded.Refused number place) rows = zeroed rows
+
+-- the tables after a run: nothing else is
 unfoldable pub settled : Decoded → Tables → Tables
-settled (Decoded.Accepted consumed root used) t = record { rows = t .rows; stack = zeroed (t .stack); marks = zeroed (t .marks); registers = zeroed (t .registers) }
-settled (Decoded.Refused number place) t = record { rows = zeroed (t .rows); stack = zeroed (t .stack); marks = zeroed (t .marks); registers = zeroed (t .registers) }
+settled r t = record { rows = settledRows r (t .rows); stack = zeroed (t .stack); marks = zeroed (t .marks); registers = zeroed (t .registers) }

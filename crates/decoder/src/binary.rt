@@ -20,12 +20,10 @@ use crate::value;
 use format::Depth;
 use format::Offset;
 use format::Row;
+use format::byte;
 use format::kind;
 use format::refusal;
 use table::RowWords;
-
-// The byte after a binary.
-const TILDE: u8 = 126;
 
 // The sign bit of an integer's high half.
 const SIGN_BIT: u32 = 2147483648;
@@ -51,7 +49,7 @@ fn count_of(rows: &[u32], v: Row) -> Count
     Count::Of((w.first as u64) * table::WORD_VALUES + (w.second as u64))
 }
 
-// The bytes of a binary at `start`: so many, and a `~` after them.
+// The bytes of a binary after its first `~`: so many, and a `~` after them.
 fn binary_bytes(message: &[u8], rows: &mut [u32], stack: &mut [u32], s: State, count: u64) -> Answer
     requires { ⌜ (s .at .0 < length (now message)) × (length (now message) ≤ messageBound) ⌝ }
     requires { ⌜ 0 < s .depth .0 ⌝ }
@@ -63,7 +61,7 @@ fn binary_bytes(message: &[u8], rows: &mut [u32], stack: &mut [u32], s: State, c
         return Answer::Refused(refusal::CUT, Offset(message.len()));
     }
     let end = start + (count as usize);
-    if message[end] != TILDE {
+    if message[end] != byte::TILDE {
         return Answer::Refused(refusal::STRAY, Offset(end));
     }
     value::push_value(

@@ -24,16 +24,13 @@ use crate::tuple;
 use format::Depth;
 use format::Offset;
 use format::Row;
+use format::byte;
 use format::class;
 use format::kind;
 use format::refusal;
 use lexer::integer::Begun;
 use lexer::white;
 use lexer::white::Next;
-
-const ATOM_QUOTE: u8 = 39;
-
-const STRING_QUOTE: u8 = 34;
 
 // White space: nothing but the place changes.
 fn white_item(s: State) -> Answer
@@ -92,12 +89,19 @@ fn step(
             rows,
             stack,
             s,
-            Begun::Digits(false, (b - class::ZERO) as u64),
+            Begun::Digits(false, (b - byte::ZERO) as u64),
         ),
         class::MINUS => number::integer_item(message, rows, stack, s, Begun::Minus),
-        class::ATOM_QUOTE => text::quoted_item(message, rows, stack, s, kind::ATOM, ATOM_QUOTE),
+        class::ATOM_QUOTE => text::quoted_item(
+            message,
+            rows,
+            stack,
+            s,
+            kind::ATOM,
+            byte::ATOM_QUOTE,
+        ),
         class::STRING_QUOTE => {
-            text::quoted_item(message, rows, stack, s, kind::STRING, STRING_QUOTE)
+            text::quoted_item(message, rows, stack, s, kind::STRING, byte::STRING_QUOTE)
         }
         class::TAG_QUOTE => text::tag_item(message, rows, stack, marks, s),
         class::COMMENT_QUOTE => text::comment_item(message, s),

@@ -15,15 +15,12 @@ use crate::state::State;
 use crate::value;
 use format::Depth;
 use format::Offset;
+use format::byte;
 use format::kind;
 use format::refusal;
 use lexer::quoted;
 use lexer::quoted::Quoted;
 use table::RowWords;
-
-const TAG_QUOTE: u8 = 96;
-
-const COMMENT_QUOTE: u8 = 37;
 
 // The refusal of quoted text that was not closed; `ended` is the slice's end.
 fn unclosed(q: Quoted, ended: Offset) -> Answer
@@ -75,7 +72,7 @@ pub(crate) fn comment_item(message: &[u8], s: State) -> Answer
 {
     let next = s.next;
     let depth = s.depth;
-    let q = quoted::read_quoted(message, Offset(s.at.0 + 1), COMMENT_QUOTE, false);
+    let q = quoted::read_quoted(message, Offset(s.at.0 + 1), byte::COMMENT_QUOTE, false);
     let Quoted::Closed(_, end) = q else {
         return unclosed(q, Offset(message.len()));
     };
@@ -104,7 +101,7 @@ pub(crate) fn tag_item(
     let start = at.0 + 1;
     let depth = s.depth;
     let noted = s.marks;
-    let q = quoted::read_quoted(message, Offset(start), TAG_QUOTE, false);
+    let q = quoted::read_quoted(message, Offset(start), byte::TAG_QUOTE, false);
     let Quoted::Closed(length, end) = q else {
         return unclosed(q, Offset(message.len()));
     };

@@ -4,6 +4,7 @@ ghost use Prim.Native.Nat.{ℕ, _<_};
 ghost use lib.ListN.{getD};
 ghost use Rattle.format.specs.Byte as B;
 ghost use Rattle.format.specs.Byte.{classOf, classCode, hasClass};
+use crate::byte;
 
 // The classes, numbered as `classCode` does.
 pub const WHITE: u8 = 0;
@@ -37,20 +38,6 @@ pub const GREATER: u8 = 13;
 pub const COMMA: u8 = 14;
 
 pub const REGISTER: u8 = 15;
-
-// The first and the last digit.
-pub const ZERO: u8 = 48;
-
-const NINE: u8 = 57;
-
-// The white bytes.
-const BLANK: u8 = 32;
-
-const TAB: u8 = 9;
-
-const NEWLINE: u8 = 10;
-
-const RETURN: u8 = 13;
 
 // Byte by byte, from 0.
 const CLASSES: [u8; 256] = [
@@ -331,24 +318,24 @@ pub fn classes() -> [u8; 256]
 pub fn is_white(b: u8) -> bool
     ensures { λ r. ⌜ r ≡ hasClass B.white b ⌝ }
 {
-    if b == BLANK {
+    if b == byte::BLANK {
         return true;
     }
-    if b == NEWLINE {
+    if b == byte::NEWLINE {
         return true;
     }
-    if b == TAB {
+    if b == byte::TAB {
         return true;
     }
-    b == RETURN
+    b == byte::RETURN
 }
 
 // Whether a byte is a digit, by comparisons.
 pub fn is_digit(b: u8) -> bool
     ensures { λ r. ⌜ r ≡ hasClass B.digit b ⌝ }
 {
-    if b < ZERO {
+    if b < byte::ZERO {
         return false;
     }
-    b <= NINE
+    b <= byte::NINE
 }

@@ -1,6 +1,7 @@
-//! The UBF(A) format: the types that every crate shares, the class of each byte, and the paper's numbers.
+//! The UBF(A) format: the types that every crate shares, the bytes and their classes, and the paper's numbers.
 
 pub mod bound;
+pub mod byte;
 pub mod class;
 pub mod kind;
 pub mod refusal;

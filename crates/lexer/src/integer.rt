@@ -5,6 +5,7 @@ ghost use lib.ListN.{drop};
 ghost use Rattle.lexer.specs.Integer.{magnitudeCap, integerFrom};
 ghost use Rattle.lexer.specs.Digits.{digitsFrom, signedFrom};
 use format::Offset;
+use format::byte;
 use format::class;
 
 // An integer of which the first bytes are read: a minus, or digits. Of digits, whether a minus stands before them, and their value,
@@ -67,7 +68,7 @@ fn read_digits(message: &[u8], from: Offset, v: u64) -> Digits
         if !class::is_digit(b) {
             return Digits::Value(value, Offset(i));
         }
-        value = shifted(value, (b - class::ZERO) as u64);
+        value = shifted(value, (b - byte::ZERO) as u64);
         i = next;
     }
     Digits::Ended(value)
@@ -113,7 +114,7 @@ pub fn read_integer(message: &[u8], from: Offset, begun: Begun) -> Integer
                 return Integer::Stray(from);
             }
             signed(
-                read_digits(message, Offset(i + 1), (b - class::ZERO) as u64),
+                read_digits(message, Offset(i + 1), (b - byte::ZERO) as u64),
                 true,
             )
         }

@@ -3,8 +3,7 @@ ghost use mathlib.Core.Path.{_≡_};
 ghost use lib.ListN.{drop};
 ghost use Rattle.lexer.specs.Quoted.{quotedFrom};
 use format::Offset;
-
-const BACKSLASH: u8 = 92;
+use format::byte;
 
 // How many bytes were read before the closing quote, with the place after it; a byte not allowed there; or the slice's end,
 // and whether a backslash is the last byte read.
@@ -25,7 +24,7 @@ pub fn read_quoted(message: &[u8], from: Offset, quote: u8, escaped: bool) -> Qu
         let b = message[i];
         let next = i + 1;
         if open {
-            if b != BACKSLASH {
+            if b != byte::BACKSLASH {
                 if b != quote {
                     return Quoted::Stray(Offset(i));
                 }
@@ -35,7 +34,7 @@ pub fn read_quoted(message: &[u8], from: Offset, quote: u8, escaped: bool) -> Qu
             if b == quote {
                 return Quoted::Closed(i - start, Offset(next));
             }
-            open = b == BACKSLASH;
+            open = b == byte::BACKSLASH;
         }
         i = next;
     }
