@@ -16,6 +16,7 @@ pub mod Growth
 pub mod Simulation
 pub mod SoundRows
 pub mod SoundTerms
+pub mod TableRows
 -- limits and counts
 pub mod Limits
 pub mod RowCount
@@ -26,6 +27,8 @@ pub mod FreeRun
 pub mod ReadBack
 pub mod Sizes
 pub mod Rounds
+-- what a writing leaves
+pub mod Written
 -- bytes appended or changed after the end
 pub mod Suffix
 pub mod Unchanged

@@ -89,7 +89,6 @@ pub plain-size : (t : Term) → length (plain t) ≡ size t + 1
 unfolding plain
 plain-size t = text-size t (code "$" ∷ [])
 
--- a number below 10 ^ k has at most k digits
 digits-bound : (f n k : ℕ) → n < 10 ^ suc k → digitCount f n ≤ suc k
 unfolding digitCount
 digits-bound zero n k h = omega arith
@@ -99,6 +98,11 @@ digits-bound (suc f) n k h = cases (ltb n 10) refl k h (digits-bound f (n / 10))
     cases true e k h next = rw (e, digitCount) (omega arith)
     cases false e zero h next = absurd (omega (arith, ltb-false n 10 e))
     cases false e (suc j) h next = rw (e, digitCount) (omega (arith, next j (omega arith)))
+
+-- a number below 10 ^ k has at most k digits
+pub natural-bound : (n k : ℕ) → n < 10 ^ suc k → length (naturalOn n []) ≤ suc k
+unfolding naturalSize
+natural-bound n k h = omega (arith, natural-size n [], digits-bound n n k h)
 
 -- 2 ^ 63 has 19 digits; a sign and the blank go with them
 pub integer-text : (z : ℤ) → T (inRange z) → length (textOn (T.int z) []) ≤ 21
@@ -116,7 +120,7 @@ digits-onto (suc f) n a b = cases (ltb n 10) refl (digits-onto f (n / 10) ((code
     cases true e h = rw (e, digitsOn)
     cases false e h = rw (e, digitsOn) h
 
-natural-onto : (n : ℕ) (a b : List ℕ) → naturalOn n (a ++ b) ≡ naturalOn n a ++ b
+pub natural-onto : (n : ℕ) (a b : List ℕ) → naturalOn n (a ++ b) ≡ naturalOn n a ++ b
 unfolding naturalOn
 natural-onto n a b = digits-onto n n a b
 
@@ -125,7 +129,7 @@ unfolding decimalOn
 decimal-onto (pos n) a b = natural-onto n a b
 decimal-onto (negsuc n) a b = ap (λ (l : List ℕ). code "-" ∷ l) (natural-onto (suc n) a b)
 
-between-onto : (quote : ℕ) (x a b : List ℕ) → between quote x (a ++ b) ≡ between quote x a ++ b
+pub between-onto : (quote : ℕ) (x a b : List ℕ) → between quote x (a ++ b) ≡ between quote x a ++ b
 between-onto quote x a b = ap (λ (l : List ℕ). quote ∷ l) (sym (append-assoc x (quote ∷ a) b))
 
 -- what follows a text is no part of it

@@ -1,7 +1,9 @@
 -- Tests and what they show.
+use Prim.Native.Nat.{ℕ}
 use mathlib.Core.Path.{_≡_, refl}
 use mathlib.Core.Bool.{Bool, true, false, _&&_, not}
-use lib.Dec.{T}
+use lib.Dec.{T, eqb}
+use borrow.Author.Tests.{eqb-true}
 
 pub true-of : (b : Bool) → T b → b ≡ true
 true-of true t = refl
@@ -22,3 +24,11 @@ right-of false b t = absurd t
 pub both : (a b : Bool) → T a → T b → T (a && b)
 both true b p q = q
 both false b p q = absurd p
+
+-- a number is k, or the test says that it is not
+pub either : {G : Type 0} (n k : ℕ) → (n ≡ k → G) → (eqb n k ≡ false → G) → G
+either {G} n k f g = by (eqb n k) refl
+  where
+    by : (q : Bool) → eqb n k ≡ q → G
+    by true e = f (eqb-true n k e)
+    by false e = g e

@@ -9,6 +9,9 @@ pub const NEWLINE: u8 = 10;
 
 pub const RETURN: u8 = 13;
 
+// What stands before the digits of an integer below zero.
+pub const MINUS: u8 = 45;
+
 // The first and the last digit.
 pub const ZERO: u8 = 48;
 
@@ -25,5 +28,16 @@ pub const COMMENT_QUOTE: u8 = 37;
 
 pub const BACKSLASH: u8 = 92;
 
-// What closes a binary.
+// What stands before and after a binary's bytes.
 pub const TILDE: u8 = 126;
+
+// What begins a list, ends a list item, opens and closes a tuple, ends a message.
+pub const HASH: u8 = 35;
+
+pub const AMPERSAND: u8 = 38;
+
+pub const LEFT_BRACE: u8 = 123;
+
+pub const RIGHT_BRACE: u8 = 125;
+
+pub const DOLLAR: u8 = 36;

@@ -40,5 +40,11 @@ pub const NO_STACK: u8 = 13;
 
 pub const NO_MARKS: u8 = 14;
 
+// A plain text longer than the output.
+pub const TOO_LONG: u8 = 15;
+
+// Unsound rows.
+pub const UNSOUND: u8 = 16;
+
 // `}` with a depth under the mark.
 pub const UNDER_MARK: u8 = 17;
