@@ -4,3 +4,7 @@
 pub mod Rows
 -- a tuple's rows, as the code stores them
 pub mod Tuple
+-- quoted bytes, judged from left to right
+pub mod Spelled
+-- rows, judged one after the other
+pub mod Judged

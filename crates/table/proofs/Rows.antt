@@ -7,10 +7,10 @@ use mathlib.Core.List.{List, [], _∷_, _++_, reverse, append-assoc, reverseAux-
 use native.Mathlib.Nat.{add-zero, add-suc, suc-add, sub-zero, zero-sub, suc-sub-suc, le-refl}
 use native.Mathlib.Omega.{arith}
 use lib.ListN.{length, drop, getD, set, replicate, length-append, length-replicate, length-reverse, List·getD-eq-default}
-use lib.Seq.{sets, sets-eq, take-append-seam, drop-append-add, getD-set-same, getD-set-other}
+use lib.Seq.{sets, sets-eq, take-append-seam, drop-append-add, getD-drop, getD-set-same, getD-set-other}
 use lib.Dec.{ltb}
 use borrow.Author.Tests.{le-leb, lt-leb, lt-ltb, le-ltb, ltb-true, ltb-false}
-use Rattle.format.specs.Rows.{Row, row, rowWords, wordsOf, rowRoom, rowAt, fieldRow, add, addTuple}
+use Rattle.format.specs.Rows.{Row, row, rowWords, wordsOf, rowsOf, rowRoom, rowAt, fieldRow, add, addTuple}
 use Rattle.format.specs.Answer.{rowsIn}
 use Rattle.format.proofs.Decoded.{words-length, rows-length}
 use Rattle.table.specs.Words.{rowIn, storedRows, lastFirst, fieldRows, tupleRows}
@@ -98,6 +98,24 @@ row-in words mem v h = cases (ltb v (rowRoom words)) refl
     cases false e =
         let past = ltb-false v (rowRoom words) e in
         row-outside (rowsIn words mem) v (rw (same-room words mem h) past) ∙ sym (List·getD-eq-default mem (row 0 0 0 0) (omega arith))
+
+pub length-rows : (used : ℕ) (words : List ℕ) → length (rowsOf used words) ≡ used
+unfolding rowsOf
+length-rows zero words = refl
+length-rows (suc n) words = ap suc (length-rows n (drop rowWords words))
+
+rows-at : (used : ℕ) (words : List ℕ) (i : ℕ) → i < used → rowFrom words (i * rowWords) ≡ rowAt (rowsOf used words) i
+unfolding rowsOf rowAt
+rows-at zero words i h = absurd (omega arith)
+rows-at (suc n) words zero h = refl
+rows-at (suc n) words (suc i) h =
+    let word : (k : ℕ) → suc i * rowWords + k ≡ rowWords + (i * rowWords + k) = λ k. omega arith in
+    let first : suc i * rowWords ≡ rowWords + i * rowWords = omega arith in
+    rw (word 1, word 2, word 3, first) (simp getD-drop at (rows-at n (drop rowWords words) i (omega arith)))
+
+-- a row that is used, as it is read and as it is among the rows
+pub row-of : (words : List ℕ) (used i : ℕ) → used ≤ rowRoom words → i < used → rowIn words i ≡ rowAt (rowsOf used words) i
+row-of words used i h l = row-inside words i (omega arith) ∙ rows-at used words i l
 
 -- a value stored above so many
 pub kept : (words : List ℕ) (d n v : ℕ) → n ≤ d → lastFirst (set words d v) n ≡ lastFirst words n

@@ -1,0 +1,31 @@
+-- `table::sound::spelled_in` meets its contract: past its test the span lies inside the slice.
+use mathlib.Core.Path.{sym, _∙_}
+use native.Mathlib.Omega.{arith}
+use borrow.Author.Needs.{needs}
+use borrow.Author.Tests.{leb-true, not-true, not-false}
+use Rattle.format.specs.Sound.{inSlice, spelledIn}
+use Rattle.table.proofs.Spelled.{by-end}
+use Rattle.table.proofs.sound.spelled_in.Statement.{statement}
+use Rattle.table.proofs.sound.spelled_in.Tie as tie
+
+in-slice-requires : tie.Need-in-slice-requires
+in-slice-requires c κs = search needs
+
+returns : tie.Need-returns
+unfolding spelledIn
+returns c = rw (sym (c .before .in-slice .ensures) ∙ not-true _ (c .if1 .taken))
+
+add-is-spelled : tie.Need-add-is-spelled
+add-is-spelled c = search needs
+
+is-spelled-requires : tie.Need-is-spelled-requires
+unfolding inSlice
+is-spelled-requires c κs = (omega arith, leb-true _ _ (sym (c .before .in-slice .ensures) ∙ not-false _ (c .if1 .left)))
+
+returns-2 : tie.Need-returns-2
+returns-2 c =
+    let past = c .before in
+    c .is-spelled .ensures ∙ by-end _ _ _ _ (sym (past .before .in-slice .ensures) ∙ not-false _ (past .if1 .left))
+
+pub spelled-in-spec : {M : Type 1} → statement M
+spelled-in-spec = tie.close (tie.spec in-slice-requires returns add-is-spelled is-spelled-requires returns-2)
