@@ -1,0 +1,28 @@
+-- `text::piece::put_quoted` meets its contract: the quote, the span and the quote are stored, each after the one before.
+use borrow.Author.Needs.{needs}
+use Rattle.text.proofs.Pieces.{stored-quoted}
+use Rattle.text.proofs.piece.put_quoted.Statement.{statement}
+use Rattle.text.proofs.piece.put_quoted.Tie as tie
+
+put-byte-requires : tie.Need-put-byte-requires
+put-byte-requires c κs = search needs
+
+put-span-requires : tie.Need-put-span-requires
+put-span-requires c κs = search needs
+
+put-byte-requires-2 : tie.Need-put-byte-requires-2
+put-byte-requires-2 c κs = search needs
+
+same-length : tie.Need-same-length
+same-length c = search needs
+
+returns : tie.Need-returns
+returns c =
+    let closing = c .before .before in
+    let span = closing .before .before .before .before in
+    let opening = span .before .before .before .before in
+    let start = opening .before .before .before .before in
+    stored-quoted _ _ _ (start .args .output .now) _ _ (start .pre .0) (opening .put-byte .ensures) (span .put-span .ensures) (closing .put-byte2 .ensures)
+
+pub put-quoted-spec : {M : Type 1} → statement M
+put-quoted-spec = tie.close (tie.spec put-byte-requires put-span-requires put-byte-requires-2 same-length returns)

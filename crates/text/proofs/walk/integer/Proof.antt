@@ -1,0 +1,27 @@
+-- `text::walk::integer` meets its contract
+use native.Mathlib.Omega.{arith}
+use Rattle.text.proofs.Turns.{positive, negative}
+use borrow.Author.Needs.{needs}
+use Rattle.text.proofs.walk.integer.Statement.{statement}
+use Rattle.text.proofs.walk.integer.Tie as tie
+
+mul-bits : tie.Need-mul-bits
+mul-bits c = search needs
+
+add-bits : tie.Need-add-bits
+add-bits c = search needs
+
+returns : tie.Need-returns
+returns c = positive _ _ (c .if1 .taken) (omega arith)
+
+sub-t4 : tie.Need-sub-t4
+sub-t4 c = search needs
+
+add-t5 : tie.Need-add-t5
+add-t5 c = search needs
+
+returns-2 : tie.Need-returns-2
+returns-2 c = negative _ _ (c .if1 .left) (omega arith)
+
+pub integer-spec : {M : Type 1} → statement M
+integer-spec = tie.close (tie.spec mul-bits add-bits returns sub-t4 add-t5 returns-2)

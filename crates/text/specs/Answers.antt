@@ -1,0 +1,12 @@
+-- 01, 'Plain text': the paper's number and values for what `write` answers, and the buffers that it leaves.
+use Prim.Native.Nat.{ℕ}
+use mathlib.Core.List.{List}
+use Rattle.format.specs.Answer as A
+use Rattle.format.specs.Answer.{writeRefusal}
+use Rattle.text.specs.declared.Written.{Written}
+use Rattle.text.specs.declared.Written.the-variants.{Bytes, Refused}
+
+-- 0 and the bytes written, or a refusal's number and 0
+unfoldable pub writtenAs : Written → List ℕ → List ℕ → A.Written
+writtenAs (Bytes n) scratch output = record { number = 0; bytes = n; scratch = scratch; output = output }
+writtenAs (Refused number) scratch output = writeRefusal number scratch output

@@ -1,0 +1,5 @@
+-- What the writer answers, in the paper's numbers
+pub mod Answers
+-- the pieces of plain text, and the walk over the rows that gives them
+pub mod Pieces
+pub mod Walk
