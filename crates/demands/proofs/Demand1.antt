@@ -1,23 +1,29 @@
--- Demand 1 of `decode`.
+-- Demand 1 of `decode` and of `write`.
 use Prim.Native.Nat.{ℕ, _≤_}
 use mathlib.Core.Path.{_≡_, refl, ap, sym, _∙_}
 use mathlib.Core.Bool.{Bool, true, false, cond}
-use mathlib.Core.List.{List, []}
+use mathlib.Core.List.{List, [], _++_}
 use native.Mathlib.Omega.{arith}
-use lib.ListN.{length}
+use lib.ListN.{length, drop}
+use lib.Seq.{drop-append-seam}
 use lib.Dec.{ltb}
 use Rattle.format.specs.Bound.{registerWords}
 use Rattle.format.specs.Machine.{Outcome, Result, refused, accepted, run}
-use Rattle.format.specs.Rows.{rowValues}
+use Rattle.format.specs.Rows.{rowValues, rowsOf, termAt}
 use Rattle.format.specs.Answer as A
-use Rattle.format.specs.Answer.{Tables, overBound, limitsOf, cleared, decodeRefusal, decodeResult, decodeAnswer}
+use Rattle.format.specs.Answer.{Tables, overBound, limitsOf, zeroed, cleared, decodeRefusal, decodeResult, decodeAnswer, writeRefusal, writeAnswer}
 use Rattle.format.specs.declared.Offset.{Offset}
 use Rattle.format.proofs.RowCount.{machine-number}
+use Rattle.format.proofs.Sizes.{plain-size}
 use Rattle.format.proofs.SoundRows.{accepted-rows}
+use Rattle.format.proofs.Written.{text, Writes, early, late, whole, writes}
 use Rattle.decoder.specs.declared.Decoded.{Decoded}
 use Rattle.decoder.specs.declared.Decoded.the-variants.{Refused}
 use Rattle.decoder.specs.Answers.{decodedAs}
-use Rattle.demands.specs.Demand1.{DecodeTouches}
+use Rattle.text.specs.Answers.{writtenAs}
+use Rattle.text.specs.declared.Written.{Written}
+use Rattle.text.specs.declared.Written.the-variants as W
+use Rattle.demands.specs.Demand1.{DecodeTouches, WriteTouches}
 
 -- a refusal's tables, by its number
 record Left (t : Tables) (d : A.Decoded) : Type 0 where
@@ -39,3 +45,50 @@ unfolding decodedAs decodeRefusal
 demand1 message t r u promise =
     let left : (n : ℕ) (p : Offset) → r ≡ Refused n p → Left t (decodeRefusal n (p .0) u) = λ n p e. rw (ap (λ (x : Decoded). decodedAs x u) (sym e) ∙ promise) (answer-left message t) in
     record { untouched = λ n p e h. left n p e .untouched refl h; zero = λ n p e h. left n p e .zero h }
+
+-- `write` refused with n, and left such buffers
+refused-left : (scratch output : List ℕ) (n : ℕ) (scratch′ output′ : List ℕ) → output′ ≡ output → (n ≤ 2 → scratch′ ≡ scratch) → (3 ≤ n → scratch′ ≡ zeroed scratch)
+    → WriteTouches scratch output (W.Refused n) scratch′ output′
+refused-left scratch output n scratch′ output′ o u z = record {
+  unchanged = λ m q. o;
+  untouched = λ m q h. let e : n ≡ m = cc in u (omega arith);
+  zero = λ m q h. let e : n ≡ m = cc in z (omega arith);
+  zeroAfter = λ m q. cc;
+  past = λ m q. let never : _≡_ {A = ℕ} 0 1 = cc in absurd (omega arith);
+}
+
+-- `write` wrote n bytes, those of a text
+written-left : (scratch output text : List ℕ) (n : ℕ) (scratch′ output′ : List ℕ) → n ≡ length text → length text ≤ length output → scratch′ ≡ zeroed scratch → output′ ≡ text ++ drop (length text) output
+    → WriteTouches scratch output (W.Bytes n) scratch′ output′
+written-left scratch output text n scratch′ output′ b f z o = record {
+  unchanged = λ m q. cc;
+  untouched = λ m q h. cc;
+  zero = λ m q h. cc;
+  zeroAfter = λ m q. z;
+  past = λ m q. let e : m ≡ length text = cc in (omega arith, rw (e, o) (drop-append-seam text (drop (length text) output)));
+}
+
+pub demand1-write : (message words : List ℕ) (used root : ℕ) (scratch output : List ℕ) (r : Written) (scratch′ output′ : List ℕ) → writtenAs r scratch′ output′ ≡ writeAnswer message words used root scratch output
+    → WriteTouches scratch output r scratch′ output′
+unfolding writtenAs writeRefusal
+demand1-write message words used root scratch output r scratch′ output′ promise = by r (writes message words used root scratch output) promise
+  where
+    number : {a b : A.Written} → a ≡ b → a .number ≡ b .number
+    number e = ap (λ (w : A.Written). w .number) e
+
+    bytes : {a b : A.Written} → a ≡ b → a .bytes ≡ b .bytes
+    bytes e = ap (λ (w : A.Written). w .bytes) e
+
+    scratches : {a b : A.Written} → a ≡ b → a .scratch ≡ b .scratch
+    scratches e = ap (λ (w : A.Written). w .scratch) e
+
+    outputs : {a b : A.Written} → a ≡ b → a .output ≡ b .output
+    outputs e = ap (λ (w : A.Written). w .output) e
+
+    by : (r : Written) {a : A.Written} → Writes message words used root scratch output a → writtenAs r scratch′ output′ ≡ a → WriteTouches scratch output r scratch′ output′
+    by (W.Refused n) (early m l u) e = refused-left scratch output n scratch′ output′ (outputs e) (λ h. scratches e) (λ h. absurd (omega (arith, number e)))
+    by (W.Refused n) (late m l) e = refused-left scratch output n scratch′ output′ (outputs e) (λ h. absurd (omega (arith, number e))) (λ h. scratches e)
+    by (W.Refused n) (whole s b f) e = absurd (omega (arith, bytes e, plain-size (termAt message (rowsOf used words) root)))
+    by (W.Bytes n) (early m l u) e = absurd (omega (arith, number e))
+    by (W.Bytes n) (late m l) e = absurd (omega (arith, number e))
+    by (W.Bytes n) (whole s b f) e = written-left scratch output (text message words used root scratch output) n scratch′ output′ (bytes e) f (scratches e) (outputs e)

@@ -1,22 +1,30 @@
--- Demand 2, first half: a message is accepted with exactly the term that the stack machine gives it, under the limits,
--- and each refusal comes exactly when its rule says.
+-- Demand 2: a message is accepted with exactly the term that the stack machine gives it, under the limits, and each refusal comes
+-- exactly when its rule says. What is written out reads back as that term unless message length or lent tables are the refused limit.
 use Prim.Native.Nat.{ℕ, _≤_}
 use mathlib.Core.Path.{_≡_}
-use mathlib.Core.Bool.{cond}
+use mathlib.Core.Bool.{Bool, _||_, cond}
 use mathlib.Core.Option.{some}
 use mathlib.Core.List.{List, _++_}
-use lib.ListN.{length}
-use lib.Dec.{ltb, T}
+use lib.ListN.{length, take}
+use lib.Dec.{eqb, ltb, T}
 use Rattle.format.specs.Bound.{messageBound, registerWords}
 use Rattle.format.specs.Machine.{Outcome, Result, refused, accepted, run}
 use Rattle.format.specs.Meaning.{termValues, messageTerm}
 use Rattle.format.specs.Rows.{rowsOf, termAt}
 use Rattle.format.specs.Sound.{soundTable}
-use Rattle.format.specs.Answer.{Tables, overBound, limitsOf, decodeAnswer, SameLengths}
+use Rattle.format.specs.Term.{Term}
+use Rattle.format.specs.Text.{plain}
+use Rattle.format.specs.Answer.{Tables, overBound, limitsOf, decodeAnswer, writeAnswer, SameLengths}
+use Rattle.format.specs.declared.Offset.{Offset}
 use Rattle.format.specs.declared.Row.{Row}
 use Rattle.decoder.specs.Answers.{decodedAs}
 use Rattle.decoder.specs.declared.Decoded.{Decoded}
 use Rattle.decoder.specs.declared.Decoded.the-variants.{Accepted, Refused}
+use Rattle.text.specs.Answers.{writtenAs}
+use Rattle.text.specs.declared.Written.{Written}
+use Rattle.text.specs.declared.Written.the-variants.{Bytes}
+use Rattle.demands.specs.declared.RoundTrip.{RoundTrip}
+use Rattle.demands.specs.declared.RoundTrip.the-variants.{NotWritten, Read, NotRead}
 
 -- what `decode` answers, with the term that the root row of the table left behind stands for
 unfoldable pub inTerms : List ℕ → Decoded → Tables → Outcome (Result termValues)
@@ -46,3 +54,64 @@ NothingChanges =
     (x y z : List ℕ) (t t′ : Tables) → SameLengths t t′ → length (x ++ z) ≤ messageBound
     → (r r′ : Decoded) (u u′ : Tables) → decodedAs r u ≡ decodeAnswer (x ++ y) t → decodedAs r′ u′ ≡ decodeAnswer (x ++ z) t′
     → (root : Row) (used : ℕ) → r ≡ Accepted (length x) root used → (r′ ≡ r) × (u′ ≡ u)
+
+-- message length and lent tables
+unfoldable pub isLimit : ℕ → Bool
+isLimit number = eqb number 1 || eqb number 2 || eqb number 12 || eqb number 13 || eqb number 14
+
+-- n bytes were written for a term; `decode` answers d to them and whatever comes after them, in all `bytes`, and leaves the tables u
+pub data ReadsBack (term : Term) (n : ℕ) (bytes : List ℕ) (u : Tables) : Decoded → Type 0 where
+  -- exactly the bytes written are consumed, the table left is sound, and its root row stands for the same term
+  same : (root : Row) (used : ℕ) → T (soundTable bytes (u .rows) used (root .0)) → termAt bytes (rowsOf used (u .rows)) (root .0) ≡ term → ReadsBack term n bytes u (Accepted n root used)
+  limit : (number : ℕ) (place : Offset) → T (isLimit number) → ReadsBack term n bytes u (Refused number place)
+
+-- whatever `write` wrote for row `root`, `decode` reads back, with any tables and anything after the bytes written
+abbrev pub WrittenReadsBack : Type 0
+WrittenReadsBack =
+    (message words : List ℕ) (used root : ℕ) (scratch output : List ℕ) (w : Written) (scratch′ output′ : List ℕ) → writtenAs w scratch′ output′ ≡ writeAnswer message words used root scratch output
+    → (n : ℕ) → w ≡ Bytes n → (after : List ℕ) (t : Tables) (d : Decoded) (u : Tables) → decodedAs d u ≡ decodeAnswer (take n output′ ++ after) t
+    → ReadsBack (termAt message (rowsOf used words) root) n (take n output′ ++ after) u d
+
+-- a round trip, written and then read: the refusal of the writing; the bytes, the root, the rows used and the term that was read; the refusal of the reading
+pub data Trip : Type 0 where
+  notWritten : ℕ → Trip
+  read : ℕ → ℕ → ℕ → Term → Trip
+  notRead : ℕ → ℕ → Trip
+
+-- the answer of `decode` as that of a round trip
+unfoldable pub reading : Decoded → RoundTrip
+reading (Accepted consumed root used) = Read consumed root used
+reading (Refused number place) = NotRead number place
+
+-- the answer of a round trip, with the term that the root row of the table left behind stands for
+unfoldable pub tripAs : List ℕ → RoundTrip → Tables → Trip
+tripAs output (NotWritten number) u = notWritten number
+tripAs output (Read n root used) u = read n (root .0) used (termAt (take n output) (rowsOf used (u .rows)) (root .0))
+tripAs output (NotRead number place) u = notRead number (place .0)
+
+-- what it has to be where the text of a term was written: all of its bytes and the same term, or what the machine refuses it for
+unfoldable pub readAs : Term → ℕ → Outcome (Result termValues) → Trip
+readAs term root (refused number place) = notRead number place
+readAs term root (accepted consumed r) = read (length (plain term)) root (r .used) term
+
+-- what it has to be, from the message, the rows and the lengths of the buffers: neither `write`'s number nor the limits look at old contents
+unfoldable pub tripSays : List ℕ → List ℕ → ℕ → ℕ → List ℕ → List ℕ → Tables → Trip
+tripSays message words used root scratch output t =
+    let number = writeAnswer message words used root scratch output .number in
+    let term = termAt message (rowsOf used words) root in
+    cond (eqb number 0) (readAs term (decodeAnswer (plain term) t .root) (machineSays (plain term) t)) (notWritten number)
+
+-- the buffers that it leaves
+pub record Buffers : Type 0 where
+  pub scratch : List ℕ
+  pub output : List ℕ
+  pub tables : Tables
+
+abbrev pub buffers : List ℕ → List ℕ → Tables → Buffers
+buffers scratch output t = record { scratch = scratch; output = output; tables = t }
+
+-- those that `write` leaves, and the tables that `decode` leaves of the text, or as they were where nothing was written
+unfoldable pub tripLeaves : List ℕ → List ℕ → ℕ → ℕ → List ℕ → List ℕ → Tables → Buffers
+tripLeaves message words used root scratch output t =
+    let w = writeAnswer message words used root scratch output in
+    buffers (w .scratch) (w .output) (cond (eqb (w .number) 0) (decodeAnswer (plain (termAt message (rowsOf used words) root)) t .tables) t)
