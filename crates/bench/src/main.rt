@@ -1,31 +1,35 @@
 //! Decodes every bench message of 01 and prints what `decode` answers: number, bytes consumed or place, root, rows used,
-//! and the words of each row.
+//! and the words of each row. Of an accepted message it prints too what `write` answers: the plain text, or the refusal.
 ghost use Prim.Native.Nat.{_≤_};
 use decoder::Decoded;
 use format::Row;
 use libc::STDOUT_FILENO;
 use table::RowWords;
+use text::Written;
 
-fn text(s: &[u8]) {
+// Every byte of the output before a writing.
+const MARKER: u8 = b'.';
+
+fn print(s: &[u8]) {
     io::write_all(STDOUT_FILENO, s);
 }
 
 // A blank and a number.
 fn number(n: u64) {
-    text(b" ");
+    print(b" ");
     io::print_decimal(STDOUT_FILENO, n);
 }
 
 // A row on a line of its own, its number first.
 fn show_row(n: Row, words: RowWords) {
-    text(b" ");
+    print(b" ");
     number(n.0 as u64);
-    text(b":");
+    print(b":");
     number(words.kind as u64);
     number(words.first as u64);
     number(words.second as u64);
     number(words.third as u64);
-    text(b"\n");
+    print(b"\n");
 }
 
 fn show_rows(rows: &[u32], used: u32) {
@@ -50,45 +54,104 @@ fn count(words: &[u32]) -> usize {
     found
 }
 
-fn show_answer(d: Decoded, rows: &[u32]) {
-    match d {
-        Decoded::Accepted(consumed, root, used) => {
-            text(b" 0, consumed");
-            number(consumed as u64);
-            text(b", root");
-            number(root.0 as u64);
-            text(b", rows");
-            number(used as u64);
-            text(b"\n");
-            show_rows(rows, used);
+// 1 for a byte at `from` or past it that is no longer the marker.
+fn one_past(at: usize, b: u8, from: usize) -> usize
+    ensures { λ r. ⌜ r ≤ 1 ⌝ }
+{
+    if at < from {
+        return 0;
+    }
+    if b == MARKER { 0 } else { 1 }
+}
+
+// How many bytes from `from` on are no longer the marker.
+fn changed(output: &[u8], from: usize) -> usize {
+    let mut found = 0;
+    for i in 0..output.len() {
+        found += one_past(i, output[i], from);
+    }
+    found
+}
+
+// The first n bytes, where there are so many.
+fn print_head(bytes: &[u8], n: usize) {
+    if n <= bytes.len() {
+        print(&bytes[..n]);
+    }
+}
+
+// What the writer answers, and how many bytes past the text it changed: of a refusal, how many in all.
+fn show_written(w: Written, output: &[u8]) {
+    match w {
+        Written::Bytes(n) => {
+            print(b" text");
+            number(n as u64);
+            print(b" bytes: ");
+            print_head(output, n);
+            print(b"\n bytes changed past it");
+            number(changed(output, n) as u64);
         }
-        Decoded::Refused(refusal, place) => {
-            text(b" refused");
+        Written::Refused(refusal) => {
+            print(b" text refused");
             number(refusal as u64);
-            text(b" at");
-            number(place.0 as u64);
-            text(b", words left in rows");
-            number(count(rows) as u64);
-            text(b"\n");
+            print(b"\n bytes changed");
+            number(changed(output, 0) as u64);
         }
     }
 }
 
-// The message, and what the decoder makes of it. Before the call every word of the tables holds 7.
+// What the writer makes of the rows that the decoder left. Before the call every word of the scratch holds 7, and every byte of the
+// output the marker.
+fn show_text(message: &[u8], rows: &[u32], used: u32, root: Row) {
+    let mut scratch = [7u32; 64];
+    let mut output = [MARKER; 256];
+    let w = text::write(message, rows, used, root, &mut scratch, &mut output);
+    show_written(w, &output);
+    print(b", words left in scratch");
+    number(count(&scratch) as u64);
+    print(b"\n");
+}
+
+fn show_answer(message: &[u8], d: Decoded, rows: &[u32]) {
+    match d {
+        Decoded::Accepted(consumed, root, used) => {
+            print(b" 0, consumed");
+            number(consumed as u64);
+            print(b", root");
+            number(root.0 as u64);
+            print(b", rows");
+            number(used as u64);
+            print(b"\n");
+            show_rows(rows, used);
+            show_text(message, rows, used, root);
+        }
+        Decoded::Refused(refusal, place) => {
+            print(b" refused");
+            number(refusal as u64);
+            print(b" at");
+            number(place.0 as u64);
+            print(b", words left in rows");
+            number(count(rows) as u64);
+            print(b"\n");
+        }
+    }
+}
+
+// The message, and what the decoder and the writer make of it. Before the call every word of the tables holds 7.
 fn show(message: &[u8]) {
     let mut rows = [7u32; 256];
     let mut stack = [7u32; 16];
     let mut marks = [7u32; 8];
     let mut registers = [7u32; 256];
-    text(message);
-    text(b"\n");
+    print(message);
+    print(b"\n");
     let d = decoder::decode(message, &mut rows, &mut stack, &mut marks, &mut registers);
-    show_answer(d, &rows);
-    text(b" words left in stack, marks, registers");
+    show_answer(message, d, &rows);
+    print(b" words left in stack, marks, registers");
     number(count(&stack) as u64);
     number(count(&marks) as u64);
     number(count(&registers) as u64);
-    text(b"\n");
+    print(b"\n");
 }
 
 fn main() {
