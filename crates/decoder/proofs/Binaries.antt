@@ -19,20 +19,20 @@ use Rattle.format.specs.Machine.{base, step}
 use Rattle.format.specs.Rows.{Row, row, rowValues, rowAt, rowsOf, rowInteger, integerOfRow, isListKind, makeRows, add, integerKind, binaryKind, nilKind, consKind, spanRow, nilRow, consRow}
 use Rattle.format.specs.Answer.{Tables}
 use Rattle.table.specs.Words.{rowIn, lastFirst}
-use Rattle.table.proofs.Rows.{row-in}
+use Rattle.table.proofs.Rows.{length-rows, row-in}
 use Rattle.decoder.specs.declared.binary.Count.the-variants.{Of, NoInteger, Negative}
 use Rattle.decoder.specs.declared.state.State.{State}
 use Rattle.decoder.specs.Answers.{tables}
 use Rattle.decoder.specs.Held.{Ready, Turn, stops, machineOf, limited, taken, withRow, made}
 use Rattle.decoder.specs.Readers.{countAs}
-use Rattle.decoder.proofs.Limits.{length-rowsOf, refused-step}
+use Rattle.decoder.proofs.Limits.{refused-step}
 use Rattle.decoder.proofs.Pops.{pop-few, pop-top}
 
 -- a row that the machine keeps is the one that the table holds
 held-row : (t : Tables) (s : State) → Ready t s → (v : ℕ) → rowAt (rowsOf (s .next .0) (t .rows)) v ≡ rowIn (t .rows) v
 held-row t s h v =
     let mem : List Row = rowsOf (s .next .0) (t .rows) in
-    sym (row-in (t .rows) mem v (omega (arith, h .used, length-rowsOf (s .next .0) (t .rows)))) ∙ ap (λ (w : List ℕ). rowIn w v) (sym (h .rows))
+    sym (row-in (t .rows) mem v (omega (arith, h .used, length-rows (s .next .0) (t .rows)))) ∙ ap (λ (w : List ℕ). rowIn w v) (sym (h .rows))
 
 -- the count that a row is
 module _ (x : Row) where

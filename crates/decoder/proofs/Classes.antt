@@ -1,5 +1,5 @@
 -- The item that a class's number stands for.
-use Prim.Native.Nat.{ℕ, zero, suc, _≤_}
+use Prim.Native.Nat.{ℕ, _≤_}
 use mathlib.Core.Path.{_≡_, refl, ap, sym, _∙_}
 use mathlib.Core.Bool.{Bool, true, false}
 use mathlib.Core.List.{List, [], _∷_}
@@ -7,6 +7,7 @@ use native.Mathlib.Omega.{arith}
 use lib.ListN.{getD, List·getD-eq-default}
 use lib.Dec.{leb}
 use borrow.Author.Tests.{eqb-true, leb-true, leb-false}
+use Rattle.format.proofs.Tests.{None, past-none}
 use Rattle.format.specs.Byte as B
 use Rattle.format.specs.Byte.{Class, classOf, classCode, hasClass}
 use Rattle.format.specs.Lex.{lex, itemOf}
@@ -57,15 +58,6 @@ class-bound c = by (leb (classCode c) 15) refl
         let last : c ≡ B.register = sym (numbered c) ∙ List·getD-eq-default classes B.register {n = classCode c} past in
         absurd (omega (arith, ap classCode last))
 
--- none of the numbers below k
-abbrev NotBelow : ℕ → ℕ → Type 0
-NotBelow n zero = Unit {0}
-NotBelow n (suc k) = NotBelow n k × (n ≡ k → ⊥)
-
-not-below : (n k : ℕ) → NotBelow n k → k ≤ n
-not-below n zero h = omega arith
-not-below n (suc k) h = let le = not-below n k (h .0) in omega (arith, le, h .1)
-
 -- what is none of the others is the comma
-pub only-comma : (c : Class) (n : ℕ) → n ≡ classCode c → NotBelow n 14 × (n ≡ 15 → ⊥) → n ≡ classCode B.comma
-only-comma c n e h = omega (arith, not-below n 14 (h .0), class-bound c, h .1)
+pub only-comma : (c : Class) (n : ℕ) → n ≡ classCode c → None 0 14 n × (n ≡ 15 → ⊥) → n ≡ classCode B.comma
+only-comma c n e h = omega (arith, past-none 0 14 n (h .0) (omega arith), class-bound c, h .1)

@@ -1,14 +1,14 @@
 -- What the limits of the tables make of a step, by the tests that the code makes.
-use Prim.Native.Nat.{ℕ, zero, suc, _+_, _≤_, _<_, min}
+use Prim.Native.Nat.{ℕ, suc, _+_, _≤_, _<_, min}
 use mathlib.Core.Path.{_≡_, refl, ap, sym, _∙_}
 use mathlib.Core.List.{List, [], _∷_, _++_}
 use native.Mathlib.Numerals.{add-one}
 use native.Mathlib.Omega.{arith}
-use lib.ListN.{length, set, drop}
+use lib.ListN.{length, set}
 use borrow.Author.Tests.{lt-ltb, le-ltb}
 use Rattle.format.specs.Bound.{stackBound, markBound}
 use Rattle.format.specs.Machine.{Machine, refuse, go, bounded}
-use Rattle.format.specs.Rows.{Row, rowValues, rowRoom, rowWords, rowsOf}
+use Rattle.format.specs.Rows.{Row, rowValues, rowRoom, rowsOf}
 use Rattle.format.specs.Answer.{Tables, limitsOf, rowsIn}
 use Rattle.format.specs.declared.Offset.{Offset}
 use Rattle.table.specs.Words.{storedRows, lastFirst}
@@ -16,7 +16,7 @@ use Rattle.decoder.specs.declared.state.State.{State}
 use Rattle.decoder.specs.declared.state.Answer.the-variants.{More, Refused}
 use Rattle.decoder.specs.Answers.{tables}
 use Rattle.decoder.specs.Held.{Ready, Turn, goes, stops, machineOf, turn, after, limited, withRow, made}
-use Rattle.table.proofs.Rows.{stored-after, pushed, length-lastFirst}
+use Rattle.table.proofs.Rows.{length-rows, stored-after, pushed, length-lastFirst}
 
 -- a refusal, as the code answers it
 pub refusal : {x : Turn} (n : ℕ) (p : Offset) (t : Tables) → x ≡ stops n (p .0) → turn (Refused n p) t ≡ x
@@ -48,18 +48,13 @@ module _ (t : Tables) (s : State) where
     unfolding limited after bounded limitsOf
     room-for h g f = simp (le-ltb _ _ h, le-ltb _ _ g, le-ltb _ _ f)
 
-pub length-rowsOf : (n : ℕ) (words : List ℕ) → length (rowsOf n words) ≡ n
-unfolding rowsOf
-length-rowsOf zero words = refl
-length-rowsOf (suc n) words = ap suc (length-rowsOf n (drop rowWords words))
-
 -- rows stored where the next ones belong
 pub stored : (t : Tables) (s : State) → Ready t s → (xs : List Row) → s .next .0 + length xs ≤ rowRoom (t .rows)
     → storedRows (t .rows) (s .next .0) xs ≡ rowsIn (t .rows) (machineOf t s .memory ++ xs)
 unfolding machineOf
 stored t s h xs g =
     let mem : List Row = rowsOf (s .next .0) (t .rows) in
-    let e : length mem ≡ s .next .0 = length-rowsOf (s .next .0) (t .rows) in
+    let e : length mem ≡ s .next .0 = length-rows (s .next .0) (t .rows) in
     ap (λ (w : List ℕ). storedRows w (s .next .0) xs) (h .rows)
     ∙ ap (λ (n : ℕ). storedRows (rowsIn (t .rows) mem) n xs) (sym e)
     ∙ stored-after (t .rows) mem xs (omega arith)
@@ -86,5 +81,5 @@ module _ (rows stack marks registers : List ℕ) (s : State) (below k : ℕ) (x 
       let noted : length (lastFirst marks (s .marks)) ≡ s .marks = length-lastFirst marks (s .marks) in
       let room : limited t s (go k 1 m) ≡ _ = room-for t s k 1 m (omega arith) (omega arith) (omega (arith, h .noted)) in
       let top : lastFirst (set stack below (s .next .0)) (below + 1) ≡ length (rowsOf (s .next .0) rows) ∷ lastFirst stack below =
-      rw (add-one, length-rowsOf) (pushed stack below (s .next .0) (omega arith)) in
+      rw (add-one, length-rows) (pushed stack below (s .next .0) (omega arith)) in
       rw (e, top, stored t s h (x ∷ []) (omega arith)) (sym room)

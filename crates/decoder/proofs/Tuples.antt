@@ -18,9 +18,9 @@ use Rattle.decoder.specs.declared.state.State.{State}
 use Rattle.decoder.specs.declared.state.Answer.the-variants.{More}
 use Rattle.decoder.specs.Answers.{tables}
 use Rattle.decoder.specs.Held.{Ready, stops, registerIn, machineOf, turn, taken}
-use Rattle.table.proofs.Rows.{pushed, length-lastFirst, drop-lastFirst, tuple-rows}
+use Rattle.table.proofs.Rows.{length-rows, pushed, length-lastFirst, drop-lastFirst, tuple-rows}
 use Rattle.table.proofs.Tuple.{length-tuple}
-use Rattle.decoder.proofs.Limits.{length-rowsOf, stored, refused-step, no-rows, no-stack, room-for}
+use Rattle.decoder.proofs.Limits.{stored, refused-step, no-rows, no-stack, room-for}
 
 -- with no mark noted
 unmarked : (at : ℕ) (m : Machine rowValues) (marks : List ℕ) (noted : ℕ) → noted ≡ 0 → M.closeTuple rowValues at m (lastFirst marks noted) ≡ refuse 10 at
@@ -67,7 +67,7 @@ module _ (rows stack marks registers : List ℕ) (s : State) (r : List ℕ) wher
     close-step h =
         let deep : length (lastFirst stack (s .depth .0)) ≡ s .depth .0 = length-lastFirst stack (s .depth .0) in
         let mem : List Row = rowsOf (s .next .0) rows in
-        let count : length mem ≡ s .next .0 = length-rowsOf (s .next .0) rows in
+        let count : length mem ≡ s .next .0 = length-rows (s .next .0) rows in
         let under : s .depth .0 - (s .depth .0 - low) ≡ low = omega arith in
         above (s .at .0) (machineOf (tables rows stack marks registers) s) marks low (s .marks) some e (omega arith)
         ∙ rw (deep, tuple-rows mem (take (s .depth .0 - low) (lastFirst stack (s .depth .0))), drop-lastFirst stack (s .depth .0 - low) (s .depth .0) (omega arith), under, count, length-take-le (s .depth .0 - low) (lastFirst stack (s .depth .0)) (omega arith)) refl

@@ -25,9 +25,6 @@ use format::kind;
 use format::refusal;
 use table::RowWords;
 
-// The sign bit of an integer's high half.
-const SIGN_BIT: u32 = 2147483648;
-
 // What a row is as a count: its value, no integer, or a negative one.
 pub(crate) enum Count {
     Of(u64),
@@ -43,7 +40,7 @@ fn count_of(rows: &[u32], v: Row) -> Count
     if w.kind != kind::INTEGER {
         return Count::NoInteger;
     }
-    if SIGN_BIT <= w.first {
+    if table::SIGN_BIT <= w.first {
         return Count::Negative;
     }
     Count::Of((w.first as u64) * table::WORD_VALUES + (w.second as u64))

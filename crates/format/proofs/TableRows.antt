@@ -3,7 +3,7 @@
 use Prim.Native.Nat.{ℕ, zero, suc, _+_, _≤_, _<_}
 use Prim.Native.Char.{code}
 use mathlib.Core.Path.{_≡_, refl, ap, ap₂, sym, _∙_}
-use mathlib.Core.Bool.{Bool, true, false, _&&_, cond}
+use mathlib.Core.Bool.{Bool, true, false, _&&_}
 use mathlib.Core.List.{List, [], _∷_, _++_, append-assoc}
 use native.Mathlib.Nat.{add-zero, zero-add}
 use native.Mathlib.Omega.{arith}
@@ -14,7 +14,7 @@ use borrow.Author.Tests.{eqb-true, eqb-false}
 use Rattle.format.specs.Term as T
 use Rattle.format.specs.Term.{Term, _then_}
 use Rattle.format.specs.Meaning.{itemsOf}
-use Rattle.format.specs.Rows.{Row, row, rowAt, isListKind, isTupleKind, integerKind, atomKind, stringKind, binaryKind, nilKind, consKind, endKind, fieldKind, tagKind, integerOfRow, spanOf, fieldsOf, noTerm, termOfRow, termsAfter, termAt}
+use Rattle.format.specs.Rows.{Row, row, rowAt, integerKind, atomKind, stringKind, binaryKind, nilKind, consKind, endKind, fieldKind, tagKind, integerOfRow, spanOf, fieldsOf, noTerm, termOfRow, termsAfter, termAt}
 use Rattle.format.specs.Sound.{inSlice, spelled, spelledIn, soundRow, soundRest, soundAfter, soundRows}
 use Rattle.format.proofs.Tests.{left-of, right-of, either}
 
@@ -46,17 +46,24 @@ module _ (message : List ℕ) where
     unfolding soundRow
     tag-inner k = let h = rw (k) at s in ltb→lt (r .third) i (right-of (spelledIn message (code "`") (r .first) (r .second)) _ h)
 
+    -- a list cell, or a tuple's field
+    cell-earlier : T (eqb (r .third) 0 && ltb (r .first) i && ltb (r .second) i) → (r .first < i) × (r .second < i)
+    cell-earlier h =
+        (ltb→lt (r .first) i (right-of (eqb (r .third) 0) _ (left-of (eqb (r .third) 0 && ltb (r .first) i) _ h)), ltb→lt (r .second) i (right-of (eqb (r .third) 0 && ltb (r .first) i) _ h))
+
     pub cons-earlier : r .kind ≡ consKind → (r .first < i) × (r .second < i)
     unfolding soundRow
-    cons-earlier k =
-        let h = rw (k) at s in
-        (ltb→lt (r .first) i (right-of (eqb (r .third) 0) _ (left-of (eqb (r .third) 0 && ltb (r .first) i) _ h)), ltb→lt (r .second) i (right-of (eqb (r .third) 0 && ltb (r .first) i) _ h))
+    cons-earlier k = cell-earlier (rw k at s)
 
     pub field-earlier : r .kind ≡ fieldKind → (r .first < i) × (r .second < i)
     unfolding soundRow
-    field-earlier k =
-        let h = rw (k) at s in
-        (ltb→lt (r .first) i (right-of (eqb (r .third) 0) _ (left-of (eqb (r .third) 0 && ltb (r .first) i) _ h)), ltb→lt (r .second) i (right-of (eqb (r .third) 0 && ltb (r .first) i) _ h))
+    field-earlier k = cell-earlier (rw k at s)
+
+    -- the kind read for the rest matters only where it is an earlier row's
+    pub rest-kind : (x y : ℕ) → (r .second < i → x ≡ y) → soundRest (r .kind) x ≡ soundRest (r .kind) y
+    unfolding soundRest
+    rest-kind x y h =
+        either (r .kind) consKind (λ k. rw (h (cons-earlier k .1))) (λ a. either (r .kind) fieldKind (λ k. rw (h (field-earlier k .1))) (λ b. rw (a, b)))
 
     -- no other kind is sound
     pub by-kind : {G : Type 0} → (r .kind ≡ integerKind → G) → (r .kind ≡ atomKind → G) → (r .kind ≡ stringKind → G) → (r .kind ≡ binaryKind → G) → (r .kind ≡ nilKind → G)
@@ -75,18 +82,9 @@ module _ (message : List ℕ) where
   -- the rest's kind among the earlier rows is its kind among all
   same-rest : (earlier rows : List Row) (r : Row) → T (soundRow message (length earlier) r) → T (soundRest (r .kind) (rowAt earlier (r .second) .kind))
       → T (soundRest (r .kind) (rowAt (earlier ++ rows) (r .second) .kind))
-  unfolding soundRest rowAt
-  same-rest earlier rows r s t = by (eqb (r .kind) consKind) (eqb (r .kind) fieldKind) refl refl t
-    where
-      same : r .second < length earlier → getD (earlier ++ rows) (r .second) (row 0 0 0 0) ≡ getD earlier (r .second) (row 0 0 0 0)
-      same h = List·getD-append earlier rows (row 0 0 0 0) (r .second) h
-
-      by : (a b : Bool) → eqb (r .kind) consKind ≡ a → eqb (r .kind) fieldKind ≡ b
-          → T (cond a (isListKind (rowAt earlier (r .second) .kind)) (cond b (isTupleKind (rowAt earlier (r .second) .kind)) true))
-          → T (cond a (isListKind (rowAt (earlier ++ rows) (r .second) .kind)) (cond b (isTupleKind (rowAt (earlier ++ rows) (r .second) .kind)) true))
-      by true b p q h = rw (same (cons-earlier (length earlier) r s (eqb-true _ _ p) .1)) h
-      by false true p q h = rw (same (field-earlier (length earlier) r s (eqb-true _ _ q) .1)) h
-      by false false p q h = tt
+  unfolding rowAt
+  same-rest earlier rows r s t =
+      rw (rest-kind (length earlier) r s (rowAt (earlier ++ rows) (r .second) .kind) (rowAt earlier (r .second) .kind) (λ h. ap (λ (x : Row). x .kind) (List·getD-append earlier rows (row 0 0 0 0) (r .second) h))) t
 
   judged-from : (earlier rows : List Row) → T (soundAfter message earlier rows) → (i : ℕ) → length earlier ≤ i → i < length (earlier ++ rows) → Judged (earlier ++ rows) i
   unfolding soundAfter rowAt

@@ -27,6 +27,9 @@ pub struct RowWords {
 // How many values a word has.
 pub const WORD_VALUES: u64 = 4294967296;
 
+// The sign bit of an integer's high half.
+pub const SIGN_BIT: u32 = 2147483648;
+
 // How many rows a table has room for.
 pub fn row_room(rows: &[u32]) -> usize
     ensures { λ r. ⌜ r ≡ rowRoom (now (rows .entry)) ⌝ }

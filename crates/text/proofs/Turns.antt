@@ -1,17 +1,18 @@
 -- A turn of the walk by what is still to come and by the row's kind, and the stack that it leaves.
-use Prim.Native.Nat.{ℕ, zero, suc, _+_, _*_, _-_, _^_, _≤_, _<_}
+use Prim.Native.Nat.{ℕ, suc, _+_, _*_, _-_, _^_, _≤_, _<_}
 use Prim.Native.Char.{code}
-use mathlib.Core.Path.{_≡_, refl, ap, _∙_}
+use mathlib.Core.Path.{_≡_, ap, _∙_}
 use mathlib.Core.Bool.{Bool, true, false, cond}
 use mathlib.Core.List.{List, _∷_}
 use native.Mathlib.Numerals.{add-one}
 use native.Mathlib.Omega.{arith}
 use lib.ListN.{length, set, length-set}
 use lib.Dec.{eqb}
-use borrow.Author.Tests.{ne-eqb, eqb-true, eqb-false, lt-ltb, le-ltb}
+use borrow.Author.Tests.{ne-eqb, lt-ltb, le-ltb}
 use Rattle.format.specs.Bits.{fromBits}
 use Rattle.format.specs.Rows.{Row, integerOfRow, integerKind, atomKind, stringKind, binaryKind, nilKind, consKind, endKind, fieldKind, tagKind}
 use Rattle.format.specs.declared.Offset.{Offset}
+use Rattle.format.proofs.Tests.{None, is-none}
 use Rattle.table.specs.Words.{lastFirst}
 use Rattle.table.proofs.Rows.{pushed, length-lastFirst}
 use Rattle.text.specs.declared.piece.Piece.{Piece}
@@ -39,19 +40,7 @@ module _ (stack : List ℕ) (top : ℕ) where
 pub turn-fits : {t u : Next} → t ≡ u → {n : ℕ} → length (t .stack) ≤ n → length (u .stack) ≤ n
 turn-fits q h = rw q at h
 
--- none of n numbers from `first` on: what is left after a match on them
-abbrev None : ℕ → ℕ → ℕ → Type 0
-None first zero k = Unit {0}
-None first (suc n) k = None first n k × (k ≡ first + n → ⊥)
-
-is-none : (first n k : ℕ) → None first n k → (j : ℕ) → first ≤ j → j < first + n → eqb k j ≡ false
-is-none first zero k h j l u = absurd (omega arith)
-is-none first (suc n) k h j l u = by (eqb j (first + n)) refl (λ u′. is-none first n k (h .0) j l u′)
-  where
-    by : (q : Bool) → eqb j (first + n) ≡ q → (j < first + n → eqb k j ≡ false) → eqb k j ≡ false
-    by true e earlier = rw (eqb-true j (first + n) e) (ne-eqb k (first + n) (h .1))
-    by false e earlier = earlier (omega (arith, eqb-false j (first + n) e))
-
+-- only a tag is none of the others
 pub is-tag : {k : ℕ} → k ≡ tagKind → None 1 8 k
 is-tag e = ((((((((tt, λ n. omega arith), λ n. omega arith), λ n. omega arith), λ n. omega arith), λ n. omega arith), λ n. omega arith), λ n. omega arith), λ n. omega arith)
 

@@ -15,6 +15,7 @@ use format::bound;
 use format::byte;
 use format::kind;
 use table::RowWords;
+use table::SIGN_BIT;
 use table::WORD_VALUES;
 
 // What is still to come of a row: all of it, as a value or as a rest; of a list cell its item; of a tuple, or of a tuple's rest, the
@@ -97,7 +98,7 @@ fn integer(high: u32, low: u32) -> Piece
     ensures { λ r. ⌜ r ≡ integerPiece (fromBits 64 (high * 2 ^ 32 + low)) ⌝ }
 {
     let bits = (high as u64) * WORD_VALUES + (low as u64);
-    if high < 2147483648 {
+    if high < SIGN_BIT {
         return Piece::Integer(false, bits);
     }
     Piece::Integer(true, 18446744073709551615 - bits + 1)
