@@ -4,6 +4,7 @@
 pub mod Tests
 pub mod Lists
 pub mod Table
+pub mod SameBytes
 pub mod Classes
 -- the bench lines, and our own
 pub mod Bench

@@ -19,7 +19,7 @@ use Rattle.format.specs.Sound.{spelled, inSlice, spelledIn, soundRow, so
 use Rattle.format.proofs.Tests.{left-of, right-of, both}
 
 -- two's complement of 64 bits is in range, whatever the words hold
-bits-range : (n : ℕ) → T (inRange (fromBits 64 n))
+pub bits-range : (n : ℕ) → T (inRange (fromBits 64 n))
 unfolding fromBits inRange
 bits-range n = cases (ltb n (2 ^ 63)) refl
   where
