@@ -1,7 +1,7 @@
--- Demand 1 of `decode` and of `write`.
-use Prim.Native.Nat.{ℕ, _≤_}
+-- Demand 1 of `decode`, of `write` and of `compare`.
+use Prim.Native.Nat.{ℕ, zero, suc, _+_, _≤_}
 use mathlib.Core.Path.{_≡_, refl, ap, sym, _∙_}
-use mathlib.Core.Bool.{Bool, true, false, cond}
+use mathlib.Core.Bool.{Bool, true, false, _&&_, _||_, not, cond}
 use mathlib.Core.List.{List, [], _++_}
 use native.Mathlib.Omega.{arith}
 use lib.ListN.{length, drop}
@@ -10,8 +10,9 @@ use lib.Dec.{ltb}
 use Rattle.format.specs.Bound.{registerWords}
 use Rattle.format.specs.Machine.{Outcome, Result, refused, accepted, run}
 use Rattle.format.specs.Rows.{rowValues, rowsOf, termAt}
+use Rattle.format.specs.Sound.{soundTable}
 use Rattle.format.specs.Answer as A
-use Rattle.format.specs.Answer.{Tables, overBound, limitsOf, zeroed, cleared, decodeRefusal, decodeResult, decodeAnswer, writeRefusal, writeAnswer}
+use Rattle.format.specs.Answer.{Tables, overBound, limitsOf, zeroed, cleared, decodeRefusal, decodeResult, decodeAnswer, writeRefusal, writeAnswer, compareRefusal, compareAnswer}
 use Rattle.format.specs.declared.Offset.{Offset}
 use Rattle.format.proofs.RowCount.{machine-number}
 use Rattle.format.proofs.Sizes.{plain-size}
@@ -23,7 +24,10 @@ use Rattle.decoder.specs.Answers.{decodedAs}
 use Rattle.text.specs.Answers.{writtenAs}
 use Rattle.text.specs.declared.Written.{Written}
 use Rattle.text.specs.declared.Written.the-variants as W
-use Rattle.demands.specs.Demand1.{DecodeTouches, WriteTouches}
+use Rattle.comparison.specs.Answers.{comparedAs}
+use Rattle.comparison.specs.declared.Compared.{Compared}
+use Rattle.comparison.specs.declared.Compared.the-variants as C
+use Rattle.demands.specs.Demand1.{DecodeTouches, WriteTouches, CompareTouches}
 
 -- a refusal's tables, by its number
 record Left (t : Tables) (d : A.Decoded) : Type 0 where
@@ -92,3 +96,38 @@ demand1-write message words used root scratch output r scratch′ output′ prom
     by (W.Bytes n) (early m l u) e = absurd (omega (arith, number e))
     by (W.Bytes n) (late m l) e = absurd (omega (arith, number e))
     by (W.Bytes n) (whole s b f) e = written-left scratch output (text message words used root scratch output) n scratch′ output′ (bytes e) f (scratches e) (outputs e)
+
+-- the scratch that `compare` leaves, by its number
+record ScratchLeft (scratch : List ℕ) (d : A.Compared) : Type 0 where
+  untouched : 1 ≤ d .number → d .number ≤ 2 → d .scratch ≡ scratch
+  zero : (1 ≤ d .number → 3 ≤ d .number) → d .scratch ≡ zeroed scratch
+
+compare-left : (messageA wordsA : List ℕ) (usedA rootA : ℕ) (messageB wordsB : List ℕ) (usedB rootB : ℕ) (scratch : List ℕ)
+    → ScratchLeft scratch (compareAnswer messageA wordsA usedA rootA messageB wordsB usedB rootB scratch)
+unfolding compareAnswer compareRefusal
+compare-left messageA wordsA usedA rootA messageB wordsB usedB rootB scratch =
+    by (overBound messageA || overBound messageB) (ltb (length scratch) (usedA + usedB)) (not (soundTable messageA wordsA usedA rootA && soundTable messageB wordsB usedB rootB)) _
+  where
+    by : (a b c : Bool) (equal : ℕ) → ScratchLeft scratch (cond a (compareRefusal 1 scratch) (cond b (compareRefusal 2 scratch)
+        (cond c (compareRefusal 16 (zeroed scratch)) (record { number = 0; equal = equal; scratch = zeroed scratch }))))
+    by true b c equal = record { untouched = λ l u. refl; zero = λ h. absurd (omega (arith, h (omega arith))) }
+    by false true c equal = record { untouched = λ l u. refl; zero = λ h. absurd (omega (arith, h (omega arith))) }
+    by false false true equal = record { untouched = λ l u. absurd (omega arith); zero = λ h. refl }
+    by false false false equal = record { untouched = λ l u. absurd (omega arith); zero = λ h. refl }
+
+-- a refusal that does not have the number 0 has at least 1
+some-number : (r : Compared) → (r ≡ C.Refused 0 → ⊥) → (n : ℕ) → r ≡ C.Refused n → 1 ≤ n
+some-number r numbered zero e = absurd (numbered e)
+some-number r numbered (suc n) e = omega arith
+
+pub demand1-compare : (messageA wordsA : List ℕ) (usedA rootA : ℕ) (messageB wordsB : List ℕ) (usedB rootB : ℕ) (scratch : List ℕ) (r : Compared) (scratch′ : List ℕ)
+    → comparedAs r scratch′ ≡ compareAnswer messageA wordsA usedA rootA messageB wordsB usedB rootB scratch → (r ≡ C.Refused 0 → ⊥) → CompareTouches scratch r scratch′
+unfolding comparedAs compareRefusal
+demand1-compare messageA wordsA usedA rootA messageB wordsB usedB rootB scratch r scratch′ promise numbered =
+    let left : (x : Compared) → r ≡ x → ScratchLeft scratch (comparedAs x scratch′) = λ x e. rw (← e, promise) (compare-left messageA wordsA usedA rootA messageB wordsB usedB rootB scratch) in
+    record {
+      untouched = λ n e u. left (C.Refused n) e .untouched (some-number r numbered n e) u;
+      zero = λ n e h. left (C.Refused n) e .zero (λ l. h);
+      zeroEqual = λ e. left C.Equal e .zero (λ l. absurd (omega arith));
+      zeroDifferent = λ e. left C.Different e .zero (λ l. absurd (omega arith));
+    }

@@ -46,7 +46,7 @@ use Rattle.demands.specs.declared.RoundTrip.{RoundTrip}
 use Rattle.demands.specs.declared.RoundTrip.the-variants.{NotWritten, NotRead}
 
 -- an accepted message has used a row
-some-row : (message : List ℕ) (t : Tables) → decodeAnswer message t .number ≡ 0 → 1 ≤ decodeAnswer message t .used
+pub some-row : (message : List ℕ) (t : Tables) → decodeAnswer message t .number ≡ 0 → 1 ≤ decodeAnswer message t .used
 unfolding decodeResult
 some-row message t z =
     let a = accepts message t z in
@@ -93,7 +93,7 @@ machine-says message t r u promise = by (overBound message) (ltb (length (t .reg
 
 -- an accepted answer, in the paper's numbers
 module _ (message : List ℕ) (t u : Tables) (consumed : ℕ) (root : Row) (used : ℕ) (promise : decodedAs (Accepted consumed root used) u ≡ decodeAnswer message t) where
-  number : decodeAnswer message t .number ≡ 0
+  pub number : decodeAnswer message t .number ≡ 0
   unfolding decodedAs
   number = ap (λ (d : A.Decoded). d .number) (sym promise)
 

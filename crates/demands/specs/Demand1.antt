@@ -9,6 +9,8 @@ use Rattle.decoder.specs.declared.Decoded.{Decoded}
 use Rattle.decoder.specs.declared.Decoded.the-variants.{Refused}
 use Rattle.text.specs.declared.Written.{Written}
 use Rattle.text.specs.declared.Written.the-variants as W
+use Rattle.comparison.specs.declared.Compared.{Compared}
+use Rattle.comparison.specs.declared.Compared.the-variants as C
 
 -- the tables t are lent to `decode`, which answers r and leaves the tables u
 pub record DecodeTouches (t : Tables) (r : Decoded) (u : Tables) : Type 0 where
@@ -27,3 +29,11 @@ pub record WriteTouches (scratch output : List ℕ) (r : Written) (scratch′ ou
   pub zeroAfter : (n : ℕ) → r ≡ W.Bytes n → scratch′ ≡ zeroed scratch
   -- no byte past those reported is changed, and those reported lie in the output
   pub past : (n : ℕ) → r ≡ W.Bytes n → (n ≤ length output) × (drop n output′ ≡ drop n output)
+
+-- a scratch is lent to `compare`, which answers r and leaves it as scratch′
+pub record CompareTouches (scratch : List ℕ) (r : Compared) (scratch′ : List ℕ) : Type 0 where
+  -- after refusals 1 and 2 it is as it was, after every other answer it is zero
+  pub untouched : (n : ℕ) → r ≡ C.Refused n → n ≤ 2 → scratch′ ≡ scratch
+  pub zero : (n : ℕ) → r ≡ C.Refused n → 3 ≤ n → scratch′ ≡ zeroed scratch
+  pub zeroEqual : r ≡ C.Equal → scratch′ ≡ zeroed scratch
+  pub zeroDifferent : r ≡ C.Different → scratch′ ≡ zeroed scratch

@@ -3,11 +3,15 @@
 ghost use mathlib.Core.Path.{_≡_};
 ghost use Prim.Native.Nat.{ℕ};
 ghost use lib.Dec.{T};
-ghost use Rattle.format.specs.Answer.{decodeAnswer, writeAnswer};
+ghost use lib.ListN.{length};
+ghost use Rattle.format.specs.Answer.{decodeAnswer, writeAnswer, compareAnswer};
 ghost use Rattle.decoder.specs.Answers.{decodedAs, tables};
 ghost use Rattle.text.specs.Answers.{writtenAs};
-ghost use Rattle.demands.specs.Demand1.{DecodeTouches, WriteTouches};
-ghost use Rattle.demands.specs.Demand2.{DecodeMeans, reading, tripAs, tripSays, tripLeaves, buffers, isLimit};
+ghost use Rattle.comparison.specs.Answers.{comparedAs};
+ghost use Rattle.demands.specs.Demand1.{DecodeTouches, WriteTouches, CompareTouches};
+ghost use Rattle.demands.specs.Demand2.{DecodeMeans, machineSays, reading, tripAs, tripSays, tripLeaves, buffers, isLimit};
+ghost use Rattle.demands.specs.Demand3.{verdict, comparisonSays, comparisonLeaves, comparisonBuffers};
+use comparison::Compared;
 use decoder::Decoded;
 use format::Offset;
 use format::Row;
@@ -83,6 +87,92 @@ pub fn round_trip(
         Written::Refused(number) => RoundTrip::NotWritten(number),
         Written::Bytes(n) => {
             read_answer(decoder::decode(&output[..n], back, stack, marks, registers))
+        }
+    }
+}
+
+// Compares the plain texts of two tables' roots: what it leaves behind (demand 1).
+pub fn compare(
+    message_a: &[u8],
+    rows_a: &[u32],
+    used_a: u32,
+    root_a: Row,
+    message_b: &[u8],
+    rows_b: &[u32],
+    used_b: u32,
+    root_b: Row,
+    scratch: &mut [u32],
+) -> Compared
+    ensures { λ r. ⌜ comparedAs r (now (scratch .exit)) ≡ compareAnswer (now («message_a» .entry)) (now («rows_a» .entry)) «used_a» («root_a» .0) (now («message_b» .entry)) (now («rows_b» .entry)) «used_b» («root_b» .0) (now (scratch .entry)) ⌝ }
+    ensures { λ r. ⌜ CompareTouches (now (scratch .entry)) r (now (scratch .exit)) ⌝ }
+{
+    comparison::compare(
+        message_a,
+        rows_a,
+        used_a,
+        root_a,
+        message_b,
+        rows_b,
+        used_b,
+        root_b,
+        scratch,
+    )
+}
+
+// Two messages decoded and compared: the refusal of the first, or of the second; a scratch shorter than the rows used of both; or whether the full plain
+// texts of the two terms are the same bytes.
+pub enum MessagesCompared {
+    FirstRefused(u8, Offset),
+    SecondRefused(u8, Offset),
+    ScratchTooShort,
+    Equal,
+    Different,
+}
+
+// The answer of a comparison of two tables that `decode` left: they are sound, and both messages within the bound, so that the only refusal is that of the scratch.
+fn verdict_of(c: Compared) -> MessagesCompared
+    ensures { λ r. ⌜ r ≡ verdict c ⌝ }
+{
+    match c {
+        Compared::Equal => MessagesCompared::Equal,
+        Compared::Different => MessagesCompared::Different,
+        Compared::Refused(_) => MessagesCompared::ScratchTooShort,
+    }
+}
+
+// Decodes two messages, each into rows of its own, with the same working memory, and compares their full plain texts on the rows (demand 3).
+pub fn compare_messages(
+    message_a: &[u8],
+    rows_a: &mut [u32],
+    message_b: &[u8],
+    rows_b: &mut [u32],
+    stack: &mut [u32],
+    marks: &mut [u32],
+    registers: &mut [u32],
+    scratch: &mut [u32],
+) -> MessagesCompared
+    ensures { λ r. ⌜ r ≡ comparisonSays (machineSays (now («message_a» .entry)) (tables (now («rows_a» .entry)) (now (stack .entry)) (now (marks .entry)) (now (registers .entry)))) (machineSays (now («message_b» .entry)) (tables (now («rows_b» .entry)) (now (stack .entry)) (now (marks .entry)) (now (registers .entry)))) (length (now (scratch .entry))) ⌝ }
+    ensures { λ r. ⌜ comparisonBuffers (now («rows_a» .exit)) (tables (now («rows_b» .exit)) (now (stack .exit)) (now (marks .exit)) (now (registers .exit))) (now (scratch .exit)) ≡ comparisonLeaves (now («message_a» .entry)) (now («rows_a» .entry)) (now («message_b» .entry)) (tables (now («rows_b» .entry)) (now (stack .entry)) (now (marks .entry)) (now (registers .entry))) (now (scratch .entry)) ⌝ }
+{
+    let a = decoder::decode(message_a, rows_a, stack, marks, registers);
+    match a {
+        Decoded::Refused(number, place) => MessagesCompared::FirstRefused(number, place),
+        Decoded::Accepted(_, root_a, used_a) => {
+            let b = decoder::decode(message_b, rows_b, stack, marks, registers);
+            match b {
+                Decoded::Refused(number, place) => MessagesCompared::SecondRefused(number, place),
+                Decoded::Accepted(_, root_b, used_b) => verdict_of(comparison::compare(
+                    message_a,
+                    rows_a,
+                    used_a,
+                    root_a,
+                    message_b,
+                    rows_b,
+                    used_b,
+                    root_b,
+                    scratch,
+                )),
+            }
         }
     }
 }
