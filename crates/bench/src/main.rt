@@ -1,6 +1,8 @@
 //! Decodes every bench message of 01 and prints what `decode` answers: number, bytes consumed or place, root, rows used,
-//! and the words of each row. Of an accepted message it prints too what `write` answers: the plain text, or the refusal.
+//! and the words of each row. Of an accepted message it prints too what `write` answers: the plain text, or the refusal. Then it
+//! compares messages and prints what `compare` answers.
 ghost use Prim.Native.Nat.{_≤_};
+use comparison::Compared;
 use decoder::Decoded;
 use format::Row;
 use libc::STDOUT_FILENO;
@@ -154,6 +156,90 @@ fn show(message: &[u8]) {
     print(b"\n");
 }
 
+// What the comparison answers.
+fn show_compared(c: Compared) {
+    match c {
+        Compared::Equal => {
+            print(b" equal");
+        }
+        Compared::Different => {
+            print(b" different");
+        }
+        Compared::Refused(refusal) => {
+            print(b" refused");
+            number(refusal as u64);
+        }
+    }
+}
+
+// One message against another, compared on the rows that the decoder left. Before the calls every word of the tables and of the scratch holds 7.
+fn against(a: &[u8], b: &[u8]) {
+    let mut rows_a = [7u32; 512];
+    let mut rows_b = [7u32; 512];
+    let mut stack = [7u32; 16];
+    let mut marks = [7u32; 8];
+    let mut registers = [7u32; 256];
+    let mut scratch = [7u32; 256];
+    print(a);
+    print(b"\n against ");
+    print(b);
+    print(b"\n");
+    let d = decoder::decode(a, &mut rows_a, &mut stack, &mut marks, &mut registers);
+    let Decoded::Accepted(_, root_a, used_a) = d else {
+        print(b" the first is not accepted\n");
+        return;
+    };
+    let e = decoder::decode(b, &mut rows_b, &mut stack, &mut marks, &mut registers);
+    let Decoded::Accepted(_, root_b, used_b) = e else {
+        print(b" the second is not accepted\n");
+        return;
+    };
+    show_compared(comparison::compare(
+        a,
+        &rows_a,
+        used_a,
+        root_a,
+        b,
+        &rows_b,
+        used_b,
+        root_b,
+        &mut scratch,
+    ));
+    print(b", words left in scratch");
+    number(count(&scratch) as u64);
+    print(b"\n");
+}
+
+// The twenty-round message against itself; against the same term with two registers in turn, and with its first round spelled out; and
+// against one whose last leaf is another.
+fn compare_rounds() {
+    let rounds =
+        b"1 >a{aa}>a{aa}>a{aa}>a{aa}>a{aa}>a{aa}>a{aa}>a{aa}>a{aa}>a{aa}>a{aa}>a{aa}>a{aa}>a{aa}>a{aa}>a{aa}>a{aa}>a{aa}>a{aa}>a{aa}>aa$";
+    against(rounds, rounds);
+    against(
+        rounds,
+        b"1 >x{xx}>y{yy}>x{xx}>y{yy}>x{xx}>y{yy}>x{xx}>y{yy}>x{xx}>y{yy}>x{xx}>y{yy}>x{xx}>y{yy}>x{xx}>y{yy}>x{xx}>y{yy}>x{xx}>y{yy}>xx$",
+    );
+    against(
+        rounds,
+        b"{1 1 }>a{aa}>a{aa}>a{aa}>a{aa}>a{aa}>a{aa}>a{aa}>a{aa}>a{aa}>a{aa}>a{aa}>a{aa}>a{aa}>a{aa}>a{aa}>a{aa}>a{aa}>a{aa}>a{aa}>aa$",
+    );
+    against(
+        rounds,
+        b"1 >a2 >b{ab}>b{aa}>a{ab}>b{aa}>a{ab}>b{aa}>a{ab}>b{aa}>a{ab}>b{aa}>a{ab}>b{aa}>a{ab}>b{aa}>a{ab}>b{aa}>a{ab}>b{aa}>a{ab}>b{aa}>a{ab}>b{aa}>a{ab}>b{aa}>a{ab}>b{aa}>a{ab}>b{aa}>a{ab}>b{aa}>a{ab}>b{aa}>a{ab}>b{aa}>a{ab}>b{aa}>a{ab}>b{aa}>a{ab}>b{aa}>ab$",
+    );
+}
+
+fn compare_all() {
+    compare_rounds();
+    against(b"'a'$", b"\"a\"$");
+    against(b"-0 $", b"0 $");
+    against(b"{1 2 }$", b"#2 &1 &$");
+    against(b"{1 2 }$", b"{2 1 }$");
+    against(b"1 `a`$", b"1 `b`$");
+    against(b"2~ab~$", b"3~abc~$");
+}
+
 fn main() {
     show(b"");
     show(b"$");
@@ -174,4 +260,5 @@ fn main() {
     show(
         b"1 >a{aa}>a{aa}>a{aa}>a{aa}>a{aa}>a{aa}>a{aa}>a{aa}>a{aa}>a{aa}>a{aa}>a{aa}>a{aa}>a{aa}>a{aa}>a{aa}>a{aa}>a{aa}>a{aa}>a{aa}>aa$",
     );
+    compare_all();
 }

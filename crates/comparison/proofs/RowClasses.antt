@@ -10,7 +10,7 @@ use lib.Seq.{getD-at}
 use borrow.Author.Tests.{eqb-true, eq-eqb, ltb-true, ltb-false, leb-true, leb-false}
 use Rattle.format.specs.Term.{Term}
 use Rattle.format.specs.Text.{plain}
-use Rattle.comparison.specs.Classes.{sameTerm, first, rowClass, classList}
+use Rattle.comparison.specs.Classes.{sameTerm, firstBelow, rowClass, classList}
 use Rattle.comparison.proofs.Firsts.{First, found, first-of}
 use Rattle.comparison.proofs.SameTerms.{agree, texts-of, same-of}
 
@@ -63,7 +63,7 @@ module _ (term : ℕ → Term) where
       (λ e. eq-eqb _ _ (equal-classes p q (texts-of (term p) (term q) e)))
 
   -- to find the first row with some term, it is enough to look at rows that are the first of their class
-  pub leader : (t : Term) (n : ℕ) → first (λ m. eqb (rowClass term m) m && sameTerm (term m) t) n ≡ first (λ m. sameTerm (term m) t) n
+  pub leader : (t : Term) (n : ℕ) → firstBelow (λ m. eqb (rowClass term m) m && sameTerm (term m) t) n ≡ firstBelow (λ m. sameTerm (term m) t) n
   unfolding sameTerm
   leader t n = found _ n m (r .bound) (λ k l. rw (r .none k l, and-false)) (λ l. both l)
     where
@@ -71,7 +71,7 @@ module _ (term : ℕ → Term) where
       r = first-of (λ k. sameTerm (term k) t) n
 
       m : ℕ
-      m = first (λ k. sameTerm (term k) t) n
+      m = firstBelow (λ k. sameTerm (term k) t) n
 
       -- a row before it with its term would have been found
       before : m < n → (k : ℕ) → k < m → sameTerm (term k) (term m) ≡ false

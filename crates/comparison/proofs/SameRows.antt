@@ -1,13 +1,12 @@
 -- Two rows of sound tables are the same by their kinds, their own bytes and the classes of the rows that they name exactly where they stand for the same term.
-use Prim.Native.Nat.{ℕ, _+_, _≤_, _<_}
-use mathlib.Core.Path.{_≡_, refl, ap, ap₂, sym, subst, _∙_}
-use mathlib.Core.Bool.{Bool, true, false, _&&_, _||_}
+use Prim.Native.Nat.{ℕ, _<_}
+use mathlib.Core.Path.{_≡_, refl, ap, ap₂, sym, _∙_}
+use mathlib.Core.Bool.{Bool, true, false, _&&_}
 use mathlib.Core.List.{List}
 use native.Mathlib.Omega.{arith}
 use lib.Dec.{T, eqb, ltb, leb, lt→ltb, le→leb}
 use lib.ListN.{length}
 use borrow.Author.Tests.{eqb-true, eqb-false}
-use Rattle.format.specs.Byte.{sameBytes}
 use Rattle.format.specs.Term as T
 use Rattle.format.specs.Term.{Term, Terms, _then_}
 use Rattle.format.specs.Text.{plain}
@@ -17,7 +16,7 @@ use Rattle.format.specs.Sound.{countFits, rootAmong, soundRow, soundRest, sound
 use Rattle.format.proofs.SameBytes.{same-bytes, same-refl}
 use Rattle.format.proofs.SoundTerms.{table-term}
 use Rattle.format.proofs.TableRows as R
-use Rattle.format.proofs.TableRows.{Judged, judged}
+use Rattle.format.proofs.TableRows.{judged}
 use Rattle.format.proofs.Tests.{both, either}
 use Rattle.table.proofs.Rows.{length-rows}
 use Rattle.comparison.specs.Classes.{Side, Sound, termIn, sameTerm}

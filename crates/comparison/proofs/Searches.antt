@@ -17,7 +17,7 @@ use Rattle.format.specs.Sound.{countFits, rootAmong, soundTable}
 use Rattle.format.proofs.Tests.{left-of, right-of}
 use Rattle.table.specs.Words.{rowIn}
 use Rattle.table.proofs.Rows.{row-of}
-use Rattle.comparison.specs.Classes.{Side, Sound, termIn, jointTerm, sameTerm, first, rowClass, classList}
+use Rattle.comparison.specs.Classes.{Side, Sound, termIn, jointTerm, sameTerm, firstBelow, rowClass, classList}
 use Rattle.comparison.specs.Same.{Placed, placed, SpanInside, sameClass, sameRow, leads}
 use Rattle.comparison.proofs.Firsts.{same-first, first-left, first-right}
 use Rattle.comparison.proofs.RowClasses.{same-class, leader, class-listed}
@@ -84,7 +84,7 @@ module _ (a b : Side) where
     abbrev leading : ℕ → Bool
     leading m = eqb (rowClass term m) m && sameTerm (term m) (term n)
 
-    class-as : rowClass term n ≡ first leading n
+    class-as : rowClass term n ≡ firstBelow leading n
     unfolding rowClass
     class-as = sym (leader term (term n) n)
 
@@ -106,11 +106,11 @@ module _ (a b : Side) where
         unfolding leads
         test = ap₂ _&&_ (ap (λ (c : ℕ). eqb c (baseX + i)) (known-at (baseX + i) h)) same-test
 
-      found-in : (count : ℕ) → count ≤ x .used → baseX + count ≤ n → first (leads classes (rowsIn x baseX) (placed (y .message) baseY r)) count ≡ first (λ i. leading (baseX + i)) count
+      found-in : (count : ℕ) → count ≤ x .used → baseX + count ≤ n → firstBelow (leads classes (rowsIn x baseX) (placed (y .message) baseY r)) count ≡ firstBelow (λ i. leading (baseX + i)) count
       found-in count l h = same-first _ _ count (λ i g. test i (omega arith) (omega arith))
 
     -- the first side's rows lie from 0 on
-    from-zero : (count : ℕ) → first (λ i. leading (0 + i)) count ≡ first leading count
+    from-zero : (count : ℕ) → firstBelow (λ i. leading (0 + i)) count ≡ firstBelow leading count
     from-zero count = same-first _ _ count (λ i l. ap leading (zero-add i))
 
     module _ (okA : Sound a) (okB : Sound b) where
@@ -121,23 +121,23 @@ module _ (a b : Side) where
       lies-second = record { ok = okB; at = λ i l. in-second i }
 
       -- row n is of the first side
-      pub in-own-side : n < a .used → (r : Row) → r ≡ rowIn (a .words) n → (c : ℕ) → c ≡ 0 + first (leads classes (rowsIn a 0) (placed (a .message) 0 r)) n → c ≡ rowClass term n
+      pub in-own-side : n < a .used → (r : Row) → r ≡ rowIn (a .words) n → (c : ℕ) → c ≡ 0 + firstBelow (leads classes (rowsIn a 0) (placed (a .message) 0 r)) n → c ≡ rowClass term n
       in-own-side l r e c q =
           q ∙ zero-add _ ∙ found-in a a 0 0 lies-first lies-first n l (zero-add n) r e n (omega arith) (omega arith) ∙ from-zero n ∙ sym class-as
 
       -- row n is of the second side: it is looked for in the first, and then in its own
       module _ (j : ℕ) (lj : j < b .used) (own : a .used + j ≡ n) (r : Row) (e : r ≡ rowIn (b .words) j) (c : ℕ)
-          (q : c ≡ 0 + first (leads classes (rowsIn a 0) (placed (b .message) (a .used) r)) (a .used)) where
-        among : c ≡ first leading (a .used)
+          (q : c ≡ 0 + firstBelow (leads classes (rowsIn a 0) (placed (b .message) (a .used) r)) (a .used)) where
+        among : c ≡ firstBelow leading (a .used)
         among = q ∙ zero-add _ ∙ found-in a b 0 (a .used) lies-first lies-second j lj own r e (a .used) (omega arith) (omega arith) ∙ from-zero (a .used)
 
         pub in-other-side : c < a .used → c ≡ rowClass term n
-        in-other-side h = among ∙ sym (class-as ∙ ap (first leading) (sym own) ∙ first-left leading (a .used) j (omega (arith, among)))
+        in-other-side h = among ∙ sym (class-as ∙ ap (firstBelow leading) (sym own) ∙ first-left leading (a .used) j (omega (arith, among)))
 
-        pub in-second-side : a .used ≤ c → (d : ℕ) → d ≡ a .used + first (leads classes (rowsIn b (a .used)) (placed (b .message) (a .used) r)) j → d ≡ rowClass term n
+        pub in-second-side : a .used ≤ c → (d : ℕ) → d ≡ a .used + firstBelow (leads classes (rowsIn b (a .used)) (placed (b .message) (a .used) r)) j → d ≡ rowClass term n
         in-second-side h d p =
             p ∙ ap (λ (m : ℕ). a .used + m) (found-in b b (a .used) (a .used) lies-second lies-second j lj own r e j (omega arith) (omega arith))
-            ∙ sym (class-as ∙ ap (first leading) (sym own) ∙ first-right leading (a .used) j (omega (arith, among)))
+            ∙ sym (class-as ∙ ap (firstBelow leading) (sym own) ∙ first-right leading (a .used) j (omega (arith, among)))
 
   -- the classes of the roots tell whether the tables' terms are the same
   pub roots : (i j : ℕ) → i < a .used → j < b .used → sameClass (classList (jointTerm a b) (a .used + b .used)) 0 i (a .used) j ≡ sameTerm (termIn a i) (termIn b j)

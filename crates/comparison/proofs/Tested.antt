@@ -10,7 +10,7 @@ use borrow.Author.Tests.{eq-eqb, ne-eqb, eqb-false}
 use Rattle.format.specs.Rows.{Row}
 use Rattle.format.proofs.Tests.{None, is-none, either}
 use Rattle.table.specs.Words.{rowIn}
-use Rattle.comparison.specs.Classes.{first}
+use Rattle.comparison.specs.Classes.{firstBelow}
 use Rattle.comparison.specs.Same.{Placed, placed, hasSpan, SpanInside, sameContent, sameRow, leads}
 use Rattle.comparison.proofs.Firsts.{found}
 
@@ -70,8 +70,8 @@ module _ (classes message words : List ℕ) (base : ℕ) (y : Placed) where
     pub differs : sameRow classes (placed message base r) y ≡ false → NoneBefore (i + 1)
     differs e = one-more i none (tested ∙ e)
 
-    pub agrees : (count : ℕ) → i < count → sameRow classes (placed message base r) y ≡ true → base + i ≡ base + first test count
+    pub agrees : (count : ℕ) → i < count → sameRow classes (placed message base r) y ≡ true → base + i ≡ base + firstBelow test count
     agrees count l e = ap (λ (n : ℕ). base + n) (sym (found test count i (omega arith) none (λ h. tested ∙ e)))
 
-  pub misses : (count i : ℕ) → i ≤ count → count ≤ i → NoneBefore i → base + count ≡ base + first test count
+  pub misses : (count i : ℕ) → i ≤ count → count ≤ i → NoneBefore i → base + count ≡ base + firstBelow test count
   misses count i h g none = ap (λ (n : ℕ). base + n) (sym (found test count count (omega arith) (λ k l. none k (omega arith)) (λ l. absurd (omega arith))))

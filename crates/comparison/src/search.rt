@@ -3,7 +3,7 @@ ghost use mathlib.Core.Path.{_≡_};
 ghost use Prim.Native.Nat.{ℕ, _+_, _^_, _≤_, _<_};
 ghost use lib.ListN.{length, take};
 ghost use Rattle.table.specs.Words.{rowIn, rowOf};
-ghost use Rattle.comparison.specs.Classes.{Sound, side, jointTerm, first, rowClass, classList};
+ghost use Rattle.comparison.specs.Classes.{Sound, side, jointTerm, firstBelow, rowClass, classList};
 ghost use Rattle.comparison.specs.Same.{placed, leads, SpanInside};
 use crate::JointRow;
 use crate::same;
@@ -24,7 +24,7 @@ fn first_same(
 ) -> JointRow
     requires { ⌜ («base_x» + count ≤ length (now classes)) × (length (now classes) < 2 ^ 32) ⌝ }
     requires { ⌜ ((i : ℕ) → i < count → SpanInside (placed (now «message_x») «base_x» (rowIn (now «rows_x») i))) × SpanInside (placed (now «message_y») «base_y» (rowOf y)) ⌝ }
-    ensures { λ r. ⌜ r .0 ≡ «base_x» + first (leads (now (classes .entry)) (λ i. placed (now («message_x» .entry)) «base_x» (rowIn (now («rows_x» .entry)) i)) (placed (now («message_y» .entry)) «base_y» (rowOf y))) count ⌝ }
+    ensures { λ r. ⌜ r .0 ≡ «base_x» + firstBelow (leads (now (classes .entry)) (λ i. placed (now («message_x» .entry)) «base_x» (rowIn (now («rows_x» .entry)) i)) (placed (now («message_y» .entry)) «base_y» (rowOf y))) count ⌝ }
 {
     let mut i = 0;
     while i < count {

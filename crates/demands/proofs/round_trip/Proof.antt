@@ -1,7 +1,6 @@
 -- `demands::round_trip` meets its contract: what `text::write` and `decoder::decode` promise, one after the other.
 use Prim.Native.Nat.{_≤_}
 use mathlib.Core.Path.{refl, sym}
-use mathlib.Core.List.{[]}
 use lib.ListN.{length}
 use lib.Seq.{length-take-le}
 use Rattle.demands.proofs.Demand2.{bytes-fit, trip-refused, trip-read}

@@ -1,6 +1,6 @@
 -- `comparison::same::same_bytes` meets its contract: the spans from a place on are the same where all of them are.
 use Prim.Native.Nat.{_-_}
-use mathlib.Core.Path.{_≡_, refl, sym, _∙_}
+use mathlib.Core.Path.{_≡_, sym, _∙_}
 use native.Mathlib.Omega.{arith}
 use denote.Ref.{now}
 use Rattle.format.specs.Byte.{sameBytes}

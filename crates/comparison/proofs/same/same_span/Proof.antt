@@ -1,6 +1,5 @@
 -- `comparison::same::same_span` meets its contract: spans of other lengths differ.
 use mathlib.Core.Path.{sym}
-use native.Mathlib.Omega.{arith}
 use Rattle.comparison.specs.Same.{sameSpan}
 use Rattle.comparison.proofs.Spans.{other-length}
 use borrow.Author.Needs.{needs}
