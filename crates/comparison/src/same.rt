@@ -8,15 +8,24 @@ ghost use Rattle.format.specs.Term.{int};
 ghost use Rattle.table.specs.Words.{rowOf};
 ghost use Rattle.comparison.specs.Classes.{sameTerm};
 ghost use Rattle.comparison.specs.Same.{placed, sameSpan, sameClass, sameCell, sameRow, SpanInside};
+use format::Offset;
 use format::Row;
 use format::kind;
 use table::RowWords;
 
 // Whether so many bytes of one message, and of another, each from a place of its own on, are the same.
-fn same_bytes(message_x: &[u8], from_x: usize, message_y: &[u8], from_y: usize, n: usize) -> bool
-    requires { ⌜ («from_x» + n ≤ length (now «message_x»)) × («from_y» + n ≤ length (now «message_y»)) ⌝ }
-    ensures { λ r. ⌜ r ≡ sameBytes (spanOf (now («message_x» .entry)) «from_x» n) (spanOf (now («message_y» .entry)) «from_y» n) ⌝ }
+fn same_bytes(
+    message_x: &[u8],
+    start_x: Offset,
+    message_y: &[u8],
+    start_y: Offset,
+    n: usize,
+) -> bool
+    requires { ⌜ («start_x» .0 + n ≤ length (now «message_x»)) × («start_y» .0 + n ≤ length (now «message_y»)) ⌝ }
+    ensures { λ r. ⌜ r ≡ sameBytes (spanOf (now («message_x» .entry)) («start_x» .0) n) (spanOf (now («message_y» .entry)) («start_y» .0) n) ⌝ }
 {
+    let from_x = start_x.0;
+    let from_y = start_y.0;
     let mut i = 0;
     while i < n {
         let next = i + 1;
@@ -38,9 +47,9 @@ fn same_span(message_x: &[u8], x: RowWords, message_y: &[u8], y: RowWords) -> bo
     }
     same_bytes(
         message_x,
-        x.first as usize,
+        Offset(x.first as usize),
         message_y,
-        y.first as usize,
+        Offset(y.first as usize),
         x.second as usize,
     )
 }

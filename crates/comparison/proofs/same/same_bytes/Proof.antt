@@ -10,13 +10,13 @@ use Rattle.comparison.proofs.same.same_bytes.Statement.{statement}
 use Rattle.comparison.proofs.same.same_bytes.Tie as tie
 
 abbrev Inv-loop : tie.InvT-loop
-Inv-loop x from-x y from-y n i₀ i = laws.from x from-x y from-y n i ≡ sameBytes (spanOf x from-x n) (spanOf y from-y n)
+Inv-loop x y n from-x from-y i₀ i = laws.from x from-x y from-y n i ≡ sameBytes (spanOf x from-x n) (spanOf y from-y n)
 
 abbrev μ-loop : tie.MeasureT-loop
-μ-loop x from-x y from-y n i₀ i = n - i
+μ-loop x y n from-x from-y i₀ i = n - i
 
 loop-holds : tie.Need-loop-holds Inv-loop μ-loop
-loop-holds c = laws.begins (now (c .args .message-x)) (c .args .from-x) (now (c .args .message-y)) (c .args .from-y) (c .args .n)
+loop-holds c = laws.begins (now (c .args .message-x)) (c .args .start-x .0) (now (c .args .message-y)) (c .args .start-y .0) (c .args .n)
 
 add-next : tie.Need-add-next Inv-loop μ-loop
 add-next c = omega arith
