@@ -6,15 +6,15 @@ use mathlib.Core.List.{List, [], _∷_, _++_}
 use native.Mathlib.Nat.{zero-add}
 use native.Mathlib.Numerals.{add-one}
 use native.Mathlib.Omega.{arith}
-use lib.Dec.{T, eqb, leb→le, ltb→lt}
+use lib.Dec.{T, eqb}
 use lib.ListN.{length, getD, take, set}
 use lib.Seq.{getD-take, take-suc-set, take-all}
 use borrow.Author.Tests.{lt-ltb, le-ltb}
 use Rattle.format.specs.Term.{Term}
 use Rattle.format.specs.Bound.{messageBound, rowBound}
 use Rattle.format.specs.Rows.{Row, rowAt, rowsOf, rowRoom}
-use Rattle.format.specs.Sound.{countFits, rootAmong, soundTable}
-use Rattle.format.proofs.Tests.{left-of, right-of}
+use Rattle.format.specs.Sound.{soundTable}
+use Rattle.format.proofs.TableRows.{passed}
 use Rattle.table.specs.Words.{rowIn}
 use Rattle.table.proofs.Rows.{row-of}
 use Rattle.comparison.specs.Classes.{Side, Sound, termIn, jointTerm, sameTerm, firstBelow, rowClass, classList}
@@ -34,23 +34,9 @@ read s ok i l = row-of (s .words) (s .used) i (ok .count) l
 pub read-inside : (s : Side) → Sound s → (base i : ℕ) → i < s .used → SpanInside (rowsIn s base i)
 read-inside s ok base i l = rw (read s ok i l) (span-inside s ok i l base)
 
--- a sound table is a sound side, and its root is among its rows
-module _ (s : Side) (root : ℕ) where
-  pub sound-side : length (s .message) ≤ messageBound → T (soundTable (s .message) (s .words) (s .used) root) → Sound s
-  unfolding soundTable countFits
-  sound-side short h =
-      let claims = countFits (s .words) (s .used) && rootAmong (s .used) root in
-      record {
-        short = short;
-        count = leb→le (s .used) (rowRoom (s .words)) (left-of (countFits (s .words) (s .used)) _ (left-of claims _ h));
-        rows = right-of claims _ h;
-      }
-
-  pub root-used : T (soundTable (s .message) (s .words) (s .used) root) → root < s .used
-  unfolding soundTable rootAmong
-  root-used h =
-      let claims = countFits (s .words) (s .used) && rootAmong (s .used) root in
-      ltb→lt root (s .used) (right-of (countFits (s .words) (s .used)) _ (left-of claims _ h))
+-- a sound table is a sound side
+pub sound-side : (s : Side) (root : ℕ) → length (s .message) ≤ messageBound → T (soundTable (s .message) (s .words) (s .used) root) → Sound s
+sound-side s root short h = let p = passed (s .message) (s .words) (s .used) root h in record { short = short; count = p .fits; rows = p .rows }
 
 -- so few rows that the numbers of both sides' rows fit a word
 pub few : (s : Side) → Sound s → s .used ≤ rowBound

@@ -15,8 +15,9 @@ use Rattle.format.specs.Term.{Term}
 use Rattle.format.specs.Meaning.{itemsOf}
 use Rattle.format.specs.Bits.{fromBits}
 use Rattle.format.specs.Rows.{Row, integerKind, atomKind, stringKind, binaryKind, nilKind, consKind, endKind, fieldKind, tagKind, integerOfRow, noTerm, fieldsOf, spanOf, termOfRow, termsAfter, termAt, rowsOf}
-use Rattle.format.specs.Sound.{spelled, inSlice, spelledIn, soundRow, soundRest, soundAfter, soundRows, countFits, rootAmong, soundTable, soundTerm, soundTerms}
+use Rattle.format.specs.Sound.{spelled, inSlice, spelledIn, soundRow, soundRest, soundAfter, soundRows, soundTable, soundTerm, soundTerms}
 use Rattle.format.proofs.Tests.{left-of, right-of, both}
+use Rattle.format.proofs.TableRows.{passed}
 
 -- two's complement of 64 bits is in range, whatever the words hold
 pub bits-range : (n : ℕ) → T (inRange (fromBits 64 n))
@@ -106,7 +107,6 @@ module _ (message : List ℕ) (short : length message < 2 ^ 63) where
       (all-add ts (termOfRow message ts r) s (row-sound (length earlier) ts r s (left-of own rest (left-of (own && rest) _ h)))) (right-of (own && rest) _ h)
 
   pub table-term : (words : List ℕ) (used root : ℕ) → T (soundTable message words used root) → T (soundTerm (termAt message (rowsOf used words) root))
-  unfolding soundTable soundRows termAt
+  unfolding soundRows termAt
   table-term words used root h =
-      sound-at (termsAfter message [] (rowsOf used words)) root
-      (terms-sound [] [] (rowsOf used words) tt (right-of (countFits words used && rootAmong used root) (soundRows message (rowsOf used words)) h))
+      sound-at (termsAfter message [] (rowsOf used words)) root (terms-sound [] [] (rowsOf used words) tt (passed message words used root h .rows))

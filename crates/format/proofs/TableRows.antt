@@ -14,9 +14,27 @@ use borrow.Author.Tests.{eqb-true, eqb-false}
 use Rattle.format.specs.Term as T
 use Rattle.format.specs.Term.{Term, _then_}
 use Rattle.format.specs.Meaning.{itemsOf}
-use Rattle.format.specs.Rows.{Row, row, rowAt, integerKind, atomKind, stringKind, binaryKind, nilKind, consKind, endKind, fieldKind, tagKind, integerOfRow, spanOf, fieldsOf, noTerm, termOfRow, termsAfter, termAt}
-use Rattle.format.specs.Sound.{inSlice, spelled, spelledIn, soundRow, soundRest, soundAfter, soundRows}
+use Rattle.format.specs.Rows.{Row, row, rowAt, rowsOf, rowRoom, integerKind, atomKind, stringKind, binaryKind, nilKind, consKind, endKind, fieldKind, tagKind, integerOfRow, spanOf, fieldsOf, noTerm, termOfRow, termsAfter, termAt}
+use Rattle.format.specs.Sound.{inSlice, spelled, spelledIn, countFits, rootAmong, soundRow, soundRest, soundAfter, soundRows, soundTable}
 use Rattle.format.proofs.Tests.{left-of, right-of, either}
+
+-- what the test of a table says: its rows have room, its root is among them, and each of them is sound
+pub record Passed (message words : List ℕ) (used root : ℕ) : Type 0 where
+  pub fits : used ≤ rowRoom words
+  pub among : root < used
+  pub rows : T (soundRows message (rowsOf used words))
+
+pub passed : (message words : List ℕ) (used root : ℕ) → T (soundTable message words used root) → Passed message words used root
+unfolding soundTable countFits rootAmong
+passed message words used root h =
+    let count = countFits words used in
+    let claims = count && rootAmong used root in
+    let claimed = left-of claims (soundRows message (rowsOf used words)) h in
+    record {
+      fits = leb→le used (rowRoom words) (left-of count (rootAmong used root) claimed);
+      among = ltb→lt root used (right-of count (rootAmong used root) claimed);
+      rows = right-of claims (soundRows message (rowsOf used words)) h;
+    }
 
 module _ (message : List ℕ) where
   -- a span that is spelled as between quotes lies in the slice

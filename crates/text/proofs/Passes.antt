@@ -2,19 +2,19 @@
 use Prim.Native.Nat.{ℕ, suc, _+_, _-_, _≤_, _<_}
 use Prim.Native.Char.{code}
 use mathlib.Core.Path.{_≡_, refl, ap, sym, _∙_}
-use mathlib.Core.Bool.{Bool, true, false, _&&_}
+use mathlib.Core.Bool.{Bool, true, false}
 use mathlib.Core.List.{List, [], _∷_, _++_}
 use native.Mathlib.Nat.{zero-add}
 use native.Mathlib.Omega.{arith}
 use lib.ListN.{length, drop, getD, set, length-set, length-append}
-use lib.Dec.{T, leb, ltb, ltb→lt, leb→le}
+use lib.Dec.{T, leb, ltb}
 use lib.Seq.{sets, length-sets, sets-eq}
 use borrow.Author.Tests.{le-leb, lt-leb, leb-true, leb-false}
 use Rattle.format.specs.Bound.{messageBound, rowBound}
 use Rattle.format.specs.Rows.{rowAt, rowsOf, rowRoom, termAt}
-use Rattle.format.specs.Sound.{countFits, rootAmong, soundRows, soundTable}
+use Rattle.format.specs.Sound.{soundRows, soundTable}
 use Rattle.format.specs.Text.{plain}
-use Rattle.format.proofs.Tests.{left-of, right-of}
+use Rattle.format.proofs.TableRows.{Passed, passed}
 use Rattle.table.specs.Words.{lastFirst, rowIn}
 use Rattle.table.proofs.Rows.{length-rows, row-of, length-lastFirst}
 use Rattle.text.specs.declared.piece.Piece.{Piece}
@@ -105,21 +105,16 @@ module _ (message words stack₀ : List ℕ) where
 
 -- the walk begins with the whole text
 module _ (message words stack : List ℕ) (root : ℕ) (sound : T (soundTable message words (length stack) root)) where
-  both : T (countFits words (length stack) && rootAmong (length stack) root)
-  unfolding soundTable
-  both = left-of (countFits words (length stack) && rootAmong (length stack) root) (soundRows message (rowsOf (length stack) words)) sound
+  -- what the test of the table says
+  tested : Passed message words (length stack) root
+  tested = passed message words (length stack) root sound
 
   pub some-word : root < length stack
-  unfolding rootAmong
-  some-word = ltb→lt root (length stack) (right-of (countFits words (length stack)) (rootAmong (length stack) root) both)
-
-  count-fits : length stack ≤ rowRoom words
-  unfolding countFits
-  count-fits = leb→le (length stack) (rowRoom words) (left-of (countFits words (length stack)) (rootAmong (length stack) root) both)
+  some-word = tested .among
 
   bound : root < rowBound
   unfolding rowRoom
-  bound = omega (arith, some-word, count-fits)
+  bound = omega (arith, tested .fits, tested .among)
 
   begun : lastFirst (set stack 0 (entry 0 root)) 1 ≡ entry 0 root ∷ []
   unfolding lastFirst
@@ -130,10 +125,9 @@ module _ (message words stack : List ℕ) (root : ℕ) (sound : T (soundTable me
     same = rw e (length-set stack 0 (entry 0 root))
 
     pub begins : Walking message words stack₀ stack₀ 1
-    unfolding soundTable
     begins = record {
-      sound = rw same (right-of (countFits words (length stack) && rootAmong (length stack) root) (soundRows message (rowsOf (length stack) words)) sound);
-      fits = rw same count-fits;
+      sound = rw same (tested .rows);
+      fits = rw same (tested .fits);
       same = refl;
       falls = rw (e, begun, its-phase 0 root bound, its-row 0 root bound) (P.as-value refl, omega (arith, some-word, length-rows (length (set stack 0 (entry 0 root))) words, length-set stack 0 (entry 0 root)));
     }

@@ -3,9 +3,10 @@ use Prim.Native.Nat.{ℕ}
 use mathlib.Core.Path.{ap, _∙_}
 use mathlib.Core.List.{List}
 use denote.Ref.{now}
+use Rattle.format.proofs.TableRows.{passed}
 use Rattle.comparison.specs.Classes.{Side, side}
 use Rattle.comparison.specs.Same.{sameClass}
-use Rattle.comparison.proofs.Searches.{sound-side, root-used, roots}
+use Rattle.comparison.proofs.Searches.{sound-side, roots}
 use borrow.Author.Needs.{needs}
 use Rattle.comparison.proofs.same_roots.Statement.{statement}
 use Rattle.comparison.proofs.same_roots.Tie as tie
@@ -37,7 +38,7 @@ returns c =
     let numbered = c .before .before .before .before in
     let at = call (numbered .before .before) in
     c .same-class .ensures ∙ ap (λ (l : List ℕ). sameClass l 0 (at .args .root-a .0) (at .args .used-a) (at .args .root-b .0)) (numbered .number-classes .ensures)
-    ∙ roots (left at) (right at) _ _ (root-used (left at) _ (at .pre .1 .0)) (root-used (right at) _ (at .pre .1 .1))
+    ∙ roots (left at) (right at) _ _ (passed _ _ _ _ (at .pre .1 .0) .among) (passed _ _ _ _ (at .pre .1 .1) .among)
 
 pub same-roots-spec : {M : Type 1} → statement M
 same-roots-spec =
