@@ -174,12 +174,12 @@ fn show_compared(c: Compared) {
 
 // One message against another, compared on the rows that the decoder left. Before the calls every word of the tables and of the scratch holds 7.
 fn against(a: &[u8], b: &[u8]) {
-    let mut rows_a = [7u32; 512];
-    let mut rows_b = [7u32; 512];
+    let mut rows_a = [7u32; 1024];
+    let mut rows_b = [7u32; 1024];
     let mut stack = [7u32; 16];
     let mut marks = [7u32; 8];
     let mut registers = [7u32; 256];
-    let mut scratch = [7u32; 256];
+    let mut scratch = [7u32; 512];
     print(a);
     print(b"\n against ");
     print(b);
@@ -230,8 +230,16 @@ fn compare_rounds() {
     );
 }
 
+// Sixty rounds, whose text no memory could hold.
+fn compare_sixty() {
+    let rounds =
+        b"1 >a{aa}>a{aa}>a{aa}>a{aa}>a{aa}>a{aa}>a{aa}>a{aa}>a{aa}>a{aa}>a{aa}>a{aa}>a{aa}>a{aa}>a{aa}>a{aa}>a{aa}>a{aa}>a{aa}>a{aa}>a{aa}>a{aa}>a{aa}>a{aa}>a{aa}>a{aa}>a{aa}>a{aa}>a{aa}>a{aa}>a{aa}>a{aa}>a{aa}>a{aa}>a{aa}>a{aa}>a{aa}>a{aa}>a{aa}>a{aa}>a{aa}>a{aa}>a{aa}>a{aa}>a{aa}>a{aa}>a{aa}>a{aa}>a{aa}>a{aa}>a{aa}>a{aa}>a{aa}>a{aa}>a{aa}>a{aa}>a{aa}>a{aa}>a{aa}>a{aa}>aa$";
+    against(rounds, rounds);
+}
+
 fn compare_all() {
     compare_rounds();
+    compare_sixty();
     against(b"'a'$", b"\"a\"$");
     against(b"-0 $", b"0 $");
     against(b"{1 2 }$", b"#2 &1 &$");
