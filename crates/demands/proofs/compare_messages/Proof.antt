@@ -26,7 +26,7 @@ abbrev accepted-2 : (c : tie.After-verdict-of) → tie.After-b2
 accepted-2 c = c .before .before .before .before .before .before .before .before
 
 decode-requires : tie.Need-decode-requires
-decode-requires c κs = search needs
+decode-requires c κs = tt
 
 enum-known-a : tie.Need-enum-known-a
 enum-known-a c = search needs
@@ -35,7 +35,7 @@ enum-known-a-2 : tie.Need-enum-known-a-2
 enum-known-a-2 c = search needs
 
 decode-requires-2 : tie.Need-decode-requires-2
-decode-requires-2 c κs = search needs
+decode-requires-2 c κs = tt
 
 enum-known-b : tie.Need-enum-known-b
 enum-known-b c = search needs
@@ -44,22 +44,22 @@ enum-known-b-2 : tie.Need-enum-known-b-2
 enum-known-b-2 c = search needs
 
 compare-requires : tie.Need-compare-requires
-compare-requires c κs = search needs
+compare-requires c κs = tt
 
 verdict-of-requires : tie.Need-verdict-of-requires
-verdict-of-requires c κs = search needs
+verdict-of-requires c κs = tt
 
 same-length : tie.Need-same-length
-same-length c = search needs
+same-length c = first (c .before .before) .decode .kept .1 .0
 
 same-length-2 : tie.Need-same-length-2
-same-length-2 c = search needs
+same-length-2 c = first (c .before .before) .decode .kept .1 .1 .0
 
 same-length-3 : tie.Need-same-length-3
-same-length-3 c = search needs
+same-length-3 c = first (c .before .before) .decode .kept .1 .1 .1 .0
 
 same-length-4 : tie.Need-same-length-4
-same-length-4 c = search needs
+same-length-4 c = first (c .before .before) .decode .kept .1 .1 .1 .1 .0
 
 returns : tie.Need-returns
 returns c =
@@ -67,19 +67,27 @@ returns c =
     first-refused _ _ _ _ _ _ _ (first (at .before) .decode .ensures) _ _ (at .a .given .1)
 
 same-length-5 : tie.Need-same-length-5
-same-length-5 c = search needs
+same-length-5 c =
+    let b = second (c .before .before) in
+    first-2 (accepted b .before) .decode .kept .1 .0
 
 same-length-6 : tie.Need-same-length-6
-same-length-6 c = search needs
+same-length-6 c = second (c .before .before) .decode2 .kept .1 .0
 
 same-length-7 : tie.Need-same-length-7
-same-length-7 c = search needs
+same-length-7 c =
+    let b = second (c .before .before) in
+    b .decode2 .kept .1 .1 .0 ∙ first-2 (accepted b .before) .decode .kept .1 .1 .0
 
 same-length-8 : tie.Need-same-length-8
-same-length-8 c = search needs
+same-length-8 c =
+    let b = second (c .before .before) in
+    b .decode2 .kept .1 .1 .1 .0 ∙ first-2 (accepted b .before) .decode .kept .1 .1 .1 .0
 
 same-length-9 : tie.Need-same-length-9
-same-length-9 c = search needs
+same-length-9 c =
+    let b = second (c .before .before) in
+    b .decode2 .kept .1 .1 .1 .1 .0 ∙ first-2 (accepted b .before) .decode .kept .1 .1 .1 .1 .0
 
 returns-2 : tie.Need-returns-2
 returns-2 c =
@@ -94,7 +102,7 @@ same-length-10 c =
     first-2 (accepted b .before) .decode .kept .1 .0
 
 same-length-11 : tie.Need-same-length-11
-same-length-11 c = search needs
+same-length-11 c = second-2 (accepted-2 c .before) .decode2 .kept .1 .0
 
 same-length-12 : tie.Need-same-length-12
 same-length-12 c =
@@ -107,7 +115,9 @@ same-length-13 c =
     b .decode2 .kept .1 .1 .1 .0 ∙ first-2 (accepted b .before) .decode .kept .1 .1 .1 .0
 
 same-length-14 : tie.Need-same-length-14
-same-length-14 c = search needs
+same-length-14 c =
+    let b = second-2 (accepted-2 c .before) in
+    b .decode2 .kept .1 .1 .1 .1 .0 ∙ first-2 (accepted b .before) .decode .kept .1 .1 .1 .1 .0
 
 same-length-15 : tie.Need-same-length-15
 same-length-15 c = search needs
