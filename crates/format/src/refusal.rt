@@ -48,3 +48,12 @@ pub const UNSOUND: u8 = 16;
 
 // `}` with a depth under the mark.
 pub const UNDER_MARK: u8 = 17;
+
+// Not a sensor block: no tag with a known name directly over a binary.
+pub const NO_BLOCK: u8 = 18;
+
+// A block's length that is no multiple of its words' width.
+pub const UNEVEN: u8 = 19;
+
+// No such word.
+pub const NO_WORD: u8 = 20;

@@ -1,0 +1,119 @@
+-- `words::formats::find` meets its contract: the names passed so far are not the one that is looked for.
+use Prim.Native.Nat.{ℕ, _-_, _≤_, _<_}
+use mathlib.Core.Path.{_≡_, refl, sym}
+use native.Mathlib.Omega.{arith}
+use borrow.Author.Needs.{needs}
+use lib.ListN.{length, getD}
+use lib.Dec.{T}
+use lib.Pow.{areBytes}
+use denote.Ref.{now}
+use Rattle.format.specs.Byte.{bytesOf}
+use Rattle.format.specs.Rows.{spanOf}
+use Rattle.format.specs.Word.{format, formats, joinAfter, joined}
+use Rattle.words.specs.Known.{orderOf}
+use Rattle.words.proofs.Joins.{span-length, span-bytes}
+use Rattle.words.proofs.Names as laws
+use Rattle.words.proofs.formats.find.Statement.{statement}
+use Rattle.words.proofs.formats.find.Tie as tie
+
+abbrev Inv-loop : tie.InvT-loop
+Inv-loop message n name names bytes i₀ i = (i ≤ 10) × laws.NameTables names bytes × laws.Passed n name i
+
+abbrev μ-loop : tie.MeasureT-loop
+μ-loop message n name names bytes i₀ i = 10 - i
+
+-- the message's elements are bytes
+known : (c : tie.After-shared-slice-known Inv-loop μ-loop) (i : ℕ) → getD (now (c .before .args .message)) i 0 < 256
+known c i = omega (arith, c .shared-slice-known .given i)
+
+-- the name that is looked for: its bytes, and how many they are
+name-bytes : (c : tie.After-shared-slice-known Inv-loop μ-loop) → let a = c .before .args in T (areBytes (spanOf (now (a .message)) (a .start .0) (a .n)))
+name-bytes c = let a = c .before .args in span-bytes (now (a .message)) (a .start .0) (a .n) (c .before .pre) (known c)
+
+name-length : (c : tie.After-shared-slice-known Inv-loop μ-loop) → let a = c .before .args in length (spanOf (now (a .message)) (a .start .0) (a .n)) ≡ a .n
+name-length c = let a = c .before .args in span-length (now (a .message)) (a .start .0) (a .n) (c .before .pre) (known c)
+
+returns : tie.Need-returns Inv-loop μ-loop
+returns c = sym (laws.long-unknown _ (omega (arith, name-length (c .before), c .if1 .taken)))
+
+join-requires : tie.Need-join-requires Inv-loop μ-loop
+join-requires c κs = (c .before .before .pre, omega (arith, c .if1 .left))
+
+loop-holds : tie.Need-loop-holds Inv-loop μ-loop
+unfolding formats format bytesOf joined joinAfter
+loop-holds c = (omega arith, record { numbers = refl; counts = refl }, laws.none-passed _ _)
+
+add-next : tie.Need-add-next Inv-loop μ-loop
+add-next c = search needs
+
+mul-if2 : tie.Need-mul-if2 Inv-loop μ-loop
+mul-if2 c = search needs
+
+array-read-if2 : tie.Need-array-read-if2 Inv-loop μ-loop
+array-read-if2 c = search needs
+
+mul-if3 : tie.Need-mul-if3 Inv-loop μ-loop
+mul-if3 c = search needs
+
+array-read-if3 : tie.Need-array-read-if3 Inv-loop μ-loop
+array-read-if3 c = search needs
+
+layout-at-requires : tie.Need-layout-at-requires Inv-loop μ-loop
+layout-at-requires c κs = search needs
+
+returns-2 : tie.Need-returns-2 Inv-loop μ-loop
+unfolding orderOf
+returns-2 c =
+    let turn = c .before .before .before in
+    let joined = turn .before .before in
+    let start = joined .before .before in
+    let inv = turn .before .loop .inv in
+    rw (c .layout-at .ensures) (sym (laws.name-found _ _ (inv .1) _ _ _ (turn .loop-test .taken) (inv .2) (c .before .before .if2 .taken) (c .before .if3 .taken) _ (name-bytes start) (name-length start) (joined .join .ensures)))
+
+loop-less : tie.Need-loop-less Inv-loop μ-loop
+loop-less c = search needs
+
+loop-again : tie.Need-loop-again Inv-loop μ-loop
+loop-again c =
+    let turn = c .before .before in
+    let inv = turn .before .loop .inv in
+    (omega (arith, turn .loop-test .taken), inv .1, laws.count-differs _ _ (inv .1) _ _ _ (turn .loop-test .taken) (inv .2) (c .if3 .left))
+
+loop-less-2 : tie.Need-loop-less-2 Inv-loop μ-loop
+loop-less-2 c = search needs
+
+loop-again-2 : tie.Need-loop-again-2 Inv-loop μ-loop
+loop-again-2 c =
+    let turn = c .before in
+    let inv = turn .before .loop .inv in
+    (omega (arith, turn .loop-test .taken), inv .1, laws.number-differs _ _ (inv .1) _ _ _ (turn .loop-test .taken) (inv .2) (c .if2 .left))
+
+returns-3 : tie.Need-returns-3 Inv-loop μ-loop
+unfolding orderOf
+returns-3 c =
+    let at = c .before in
+    let start = at .before .before .before in
+    let all : at .loop .i ≡ 10 = omega (arith, at .loop .inv .0, c .loop-test .left) in
+    sym (laws.all-passed _ _ (rw all at (at .loop .inv .2)) _ (name-bytes start) (name-length start) (at .before .join .ensures))
+
+pub find-spec : {M : Type 1} → statement M
+find-spec =
+    tie.close
+    (tie.spec
+    Inv-loop
+    μ-loop
+    returns
+    join-requires
+    loop-holds
+    add-next
+    mul-if2
+    array-read-if2
+    mul-if3
+    array-read-if3
+    layout-at-requires
+    returns-2
+    loop-less
+    loop-again
+    loop-less-2
+    loop-again-2
+    returns-3)

@@ -1,0 +1,117 @@
+//! The ten known names, and the width, the sign and the byte order that each of them names (01, 'Sensor words').
+ghost use mathlib.Core.Path.{_≡_};
+ghost use Prim.Native.Nat.{_+_, _≤_, _<_};
+ghost use lib.ListN.{length};
+ghost use Rattle.format.specs.Rows.{spanOf};
+ghost use Rattle.format.specs.Word.{formats, formatIn};
+ghost use Rattle.words.specs.Known.{found, layoutAt};
+use crate::join::join;
+use format::Offset;
+
+// Byte order: most significant byte first, or last.
+pub(crate) enum Order {
+    Big,
+    Little,
+}
+
+// How words lie in their bytes.
+pub(crate) struct Layout {
+    pub width: usize,
+    pub signed: bool,
+    pub order: Order,
+}
+
+// What a name says; nothing where it is not known.
+pub(crate) enum Found {
+    Known(Layout),
+    Unknown,
+}
+
+// How many names are known.
+const KNOWN: usize = 10;
+
+// Bytes of the longest of them.
+const LONGEST: usize = 5;
+
+// Each name as a number, its bytes joined as those of a big-endian word, and how many bytes it has.
+const NAMES: [u64; 10] = [
+    0x7538, // u8
+    0x6938, // i8
+    0x7531366265, // u16be
+    0x7531366c65, // u16le
+    0x6931366265, // i16be
+    0x6931366c65, // i16le
+    0x7533326265, // u32be
+    0x7533326c65, // u32le
+    0x6933326265, // i32be
+    0x6933326c65, // i32le
+];
+
+const NAME_BYTES: [usize; 10] = [2, 2, 5, 5, 5, 5, 5, 5, 5, 5];
+
+// Bytes of a word.
+const WIDTHS: [usize; 10] = [1, 1, 2, 2, 2, 2, 4, 4, 4, 4];
+
+// Whether a word is two's complement.
+const SIGNED: [bool; 10] = [
+    false,
+    true,
+    false,
+    false,
+    true,
+    true,
+    false,
+    false,
+    true,
+    true,
+];
+
+// The order of its bytes.
+const ORDERS: [Order; 10] = [
+    Order::Big, // u8
+    Order::Big, // i8
+    Order::Big, // u16be
+    Order::Little, // u16le
+    Order::Big, // i16be
+    Order::Little, // i16le
+    Order::Big, // u32be
+    Order::Little, // u32le
+    Order::Big, // i32be
+    Order::Little, // i32le
+];
+
+// What the name at a place of the tables says.
+fn layout_at(i: usize) -> Layout
+    requires { ⌜ i < 10 ⌝ }
+    ensures { λ r. ⌜ r ≡ layoutAt i ⌝ }
+{
+    Layout {
+        width: WIDTHS[i],
+        signed: SIGNED[i],
+        order: ORDERS[i],
+    }
+}
+
+// What the n bytes from `start` on say, as a name.
+pub(crate) fn find(message: &[u8], start: Offset, n: usize) -> Found
+    requires { ⌜ start .0 + n ≤ length (now message) ⌝ }
+    ensures { λ r. ⌜ r ≡ found (formatIn formats (spanOf (now (message .entry)) (start .0) n)) ⌝ }
+{
+    if LONGEST < n {
+        return Found::Unknown;
+    }
+    let name = join(message, start, n, Order::Big);
+    let names = NAMES;
+    let bytes = NAME_BYTES;
+    let mut i = 0;
+    while i < KNOWN {
+        let next = i + 1;
+        if names[i] == name {
+            if bytes[i] == n {
+                return Found::Known(layout_at(i));
+            }
+        }
+        i = next;
+    }
+    Found::Unknown
+}
