@@ -1,9 +1,9 @@
 -- Bytes joined one by one, in either order.
-use Prim.Native.Nat.{ℕ, zero, suc, _+_, _*_, _-_, _^_, _≤_, _<_}
-use mathlib.Core.Path.{_≡_, refl, ap, ap₂, sym, _∙_}
-use mathlib.Core.Bool.{Bool, true, false, _&&_}
-use mathlib.Core.List.{List, [], _∷_, _++_, reverse, reverseAux, reverse-reverse}
-use native.Mathlib.Nat.{zero-add, suc-add, add-suc, add-zero, mul-le-mul-right, mul-assoc, lt-of-lt-of-le}
+use Prim.Native.Nat.{ℕ, suc, _+_, _*_, _-_, _^_, _≤_, _<_}
+use mathlib.Core.Path.{_≡_, refl, ap₂, _∙_}
+use mathlib.Core.Bool.{Bool, true, false}
+use mathlib.Core.List.{List, [], _∷_, _++_, reverse, reverseAux}
+use native.Mathlib.Nat.{zero-add, suc-add, add-suc, mul-le-mul-right, mul-assoc, lt-of-lt-of-le}
 use native.Mathlib.Omega.{arith}
 use native.Mathlib.Numerals.{add-one}
 use lib.ListN.{length, getD, take, drop, length-drop, length-reverse}

@@ -1,8 +1,8 @@
 -- The constant tables follow the definition's list of formats, entry by entry, and the search through them finds what the definition finds.
-use Prim.Native.Nat.{ℕ, zero, suc, _+_, _*_, _≤_, _<_}
+use Prim.Native.Nat.{ℕ, zero, suc, _+_, _<_}
 use mathlib.Core.Path.{_≡_, refl, ap, sym, _∙_}
 use mathlib.Core.Bool.{Bool, true, false, _&&_}
-use mathlib.Core.Option.{Option, none, some}
+use mathlib.Core.Option.{none, some}
 use mathlib.Core.List.{List, [], _∷_, map}
 use native.Mathlib.Numerals.{add-one}
 use native.Mathlib.Omega.{arith}
@@ -16,8 +16,6 @@ use Rattle.format.specs.Word.{format, formats, formatIn, joinAfter, joined, big
 use Rattle.format.proofs.SameBytes.{same-bytes, same-refl}
 use Rattle.format.proofs.Tests.{left-of, right-of}
 use Rattle.words.specs.declared.formats.Order.{Order}
-use Rattle.words.specs.declared.formats.Layout.{Layout}
-use Rattle.words.specs.declared.formats.Found.{Found}
 use Rattle.words.specs.declared.formats.Found.the-variants.{Known, Unknown}
 use Rattle.words.specs.Known.{noFormat, orderAs, layoutOf, layoutAt, found}
 use Rattle.words.proofs.Joins.{joined-same}

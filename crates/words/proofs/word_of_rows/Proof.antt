@@ -1,5 +1,4 @@
 -- `words::word_of_rows` meets its contract.
-use mathlib.Core.Path.{subst}
 use Rattle.words.proofs.Rows as laws
 use Rattle.words.proofs.word_of_rows.Statement.{statement}
 use Rattle.words.proofs.word_of_rows.Tie as tie

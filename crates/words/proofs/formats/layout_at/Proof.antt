@@ -1,7 +1,6 @@
 -- `words::formats::layout_at` meets its contract, by the rule of the tables.
 use mathlib.Core.Path.{refl}
 use borrow.Author.Needs.{needs}
-use Rattle.format.specs.Byte.{bytesOf}
 use Rattle.format.specs.Word.{format, formats}
 use Rattle.words.specs.Known.{orderAs}
 use Rattle.words.proofs.Names.{tables-at}

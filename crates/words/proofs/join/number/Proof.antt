@@ -1,11 +1,10 @@
 -- `words::join::number` meets its contract, by the laws over the width.
-use mathlib.Core.Path.{refl, sym, subst, _∙_}
+use mathlib.Core.Path.{_∙_}
 use borrow.Author.Needs.{needs}
 use borrow.Author.Tests.{not-true, not-false}
 use mir.Syntax.{w64}
-use mir.Val.{SFits}
 use mir.ValLaws.{toZ-ofZ}
-use Rattle.words.proofs.Widths as laws
+use Rattle.words.proofs.Numbers as laws
 use Rattle.words.proofs.join.number.Statement.{statement}
 use Rattle.words.proofs.join.number.Tie as tie
 
