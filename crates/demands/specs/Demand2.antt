@@ -1,20 +1,22 @@
 -- Demand 2: a message is accepted with exactly the term that the stack machine gives it, under the limits, and each refusal comes
--- exactly when its rule says. What is written out reads back as that term unless message length or lent tables are the refused limit.
-use Prim.Native.Nat.{ℕ, _≤_}
+-- exactly when its rule says. What is written out reads back as that term unless message length or lent tables are the refused limit. Sensor words
+-- come out in the byte order their tag names, on every processor.
+use Prim.Native.Nat.{ℕ, _*_, _/_, _%_, _≤_, _<_}
 use mathlib.Core.Path.{_≡_}
 use mathlib.Core.Bool.{Bool, _||_, cond}
 use mathlib.Core.Option.{some}
 use mathlib.Core.List.{List, _++_}
-use lib.ListN.{length, take}
+use lib.ListN.{length, take, drop}
 use lib.Dec.{eqb, ltb, T}
 use Rattle.format.specs.Bound.{messageBound, registerWords}
 use Rattle.format.specs.Machine.{Outcome, Result, refused, accepted, run}
 use Rattle.format.specs.Meaning.{termValues, messageTerm}
 use Rattle.format.specs.Rows.{rowsOf, termAt}
 use Rattle.format.specs.Sound.{soundTable}
-use Rattle.format.specs.Term.{Term}
+use Rattle.format.specs.Term.{Term, binary, tag}
 use Rattle.format.specs.Text.{plain}
-use Rattle.format.specs.Answer.{Tables, overBound, limitsOf, decodeAnswer, writeAnswer, SameLengths}
+use Rattle.format.specs.Word.{Format, formats, formatIn, wordOf}
+use Rattle.format.specs.Answer.{Tables, overBound, limitsOf, decodeAnswer, writeAnswer, wordAnswer, SameLengths}
 use Rattle.format.specs.declared.Offset.{Offset}
 use Rattle.format.specs.declared.Row.{Row}
 use Rattle.decoder.specs.Answers.{decodedAs}
@@ -23,6 +25,9 @@ use Rattle.decoder.specs.declared.Decoded.the-variants.{Accepted, Refused}
 use Rattle.text.specs.Answers.{writtenAs}
 use Rattle.text.specs.declared.Written.{Written}
 use Rattle.text.specs.declared.Written.the-variants.{Bytes}
+use Rattle.words.specs.Answers.{wordAs}
+use Rattle.words.specs.declared.Word.{Word}
+use Rattle.words.specs.declared.Word.the-variants as W
 use Rattle.demands.specs.declared.RoundTrip.{RoundTrip}
 use Rattle.demands.specs.declared.RoundTrip.the-variants.{NotWritten, Read, NotRead}
 
@@ -115,3 +120,22 @@ unfoldable pub tripLeaves : List ℕ → List ℕ → ℕ → ℕ → List ℕ �
 tripLeaves message words used root scratch output t =
     let w = writeAnswer message words used root scratch output in
     buffers (w .scratch) (w .output) (cond (eqb (w .number) 0) (decodeAnswer (plain (termAt message (rowsOf used words) root)) t .tables) t)
+
+-- `read_word` answers w for word k of a tag over the binary of these bytes, where the tag's name stands for the format f
+pub record ReadsWord (f : Format) (bytes : List ℕ) (k : ℕ) (w : Word) : Type 0 where
+  -- as many bytes as the width says, from k times as many on, joined in the order that the name says, for i in two's complement
+  pub word : length bytes % f .width ≡ 0 → k < length bytes / f .width → w ≡ W.Value (wordOf f (take (f .width) (drop (k * f .width) bytes)))
+  -- past the last word
+  pub past : length bytes % f .width ≡ 0 → length bytes / f .width ≤ k → w ≡ W.Refused 20
+  -- bytes that are no whole number of words
+  pub uneven : (length bytes % f .width ≡ 0 → ⊥) → w ≡ W.Refused 19
+
+-- for any message that `decode` accepts, with tables of any lengths and any old contents, and any row number at which a term stands that is a tag of a known name over a
+-- binary: `read_word`, on the message, the row table as `decode` left it and the count that it answered, reads the words of that binary
+abbrev pub AcceptedWords : Type 0
+AcceptedWords =
+    (message : List ℕ) (t u : Tables) (consumed : ℕ) (root : Row) (used : ℕ) → decodedAs (Accepted consumed root used) u ≡ decodeAnswer message t
+    → (row : Row) (name bytes : List ℕ) → termAt message (rowsOf used (u .rows)) (row .0) ≡ tag name (binary bytes)
+    → (f : Format) → formatIn formats name ≡ some f
+    → (k : ℕ) (w : Word) → wordAs w ≡ wordAnswer message (u .rows) used (row .0) k → (w ≡ W.Refused 0 → ⊥)
+    → ReadsWord f bytes k w

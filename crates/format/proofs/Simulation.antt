@@ -43,7 +43,7 @@ module _ (message : List ℕ) where
   terms-add ts [] r = refl
   terms-add ts (x ∷ rows) r = terms-add (ts ++ (termOfRow message ts x ∷ [])) rows r
 
-  terms-length : (ts : List Term) (rows : List Row) → length (termsAfter message ts rows) ≡ length ts + length rows
+  pub terms-length : (ts : List Term) (rows : List Row) → length (termsAfter message ts rows) ≡ length ts + length rows
   unfolding termsAfter
   terms-length ts [] = sym (add-zero (length ts))
   terms-length ts (x ∷ rows) = terms-length (ts ++ (termOfRow message ts x ∷ [])) rows ∙ omega (arith, length-append ts (termOfRow message ts x ∷ []))
