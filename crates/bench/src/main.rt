@@ -1,13 +1,19 @@
 //! Decodes every bench message of 01 and prints what `decode` answers: number, bytes consumed or place, root, rows used,
 //! and the words of each row. Of an accepted message it prints too what `write` answers: the plain text, or the refusal. Then it
-//! compares messages and prints what `compare` answers.
+//! compares messages and prints what `compare` answers, and reads sensor words and prints what `read_word` answers.
 ghost use Prim.Native.Nat.{_≤_};
+ghost use lib.IntN.{natAbs};
+ghost use mathlib.Core.Path.{_≡_};
 use comparison::Compared;
 use decoder::Decoded;
 use format::Row;
 use libc::STDOUT_FILENO;
 use table::RowWords;
 use text::Written;
+use words::Word;
+
+// The last word that can be asked for.
+const LAST_K: u64 = 18446744073709551615;
 
 // Every byte of the output before a writing.
 const MARKER: u8 = b'.';
@@ -248,6 +254,122 @@ fn compare_all() {
     against(b"2~ab~$", b"3~abc~$");
 }
 
+// A byte as it is, or by its code where it cannot be seen.
+fn show_byte(b: u8) {
+    if b < b' ' {
+        print(b"\\x");
+        io::print_hex(STDOUT_FILENO, b as u64, 2);
+        return;
+    }
+    if b'~' < b {
+        print(b"\\x");
+        io::print_hex(STDOUT_FILENO, b as u64, 2);
+        return;
+    }
+    let one = [b];
+    print(&one);
+}
+
+fn show_bytes(bytes: &[u8]) {
+    for i in 0..bytes.len() {
+        show_byte(bytes[i]);
+    }
+}
+
+// How far a number is from 0.
+fn magnitude(n: i64) -> u64
+    ensures { λ r. ⌜ r ≡ natAbs n ⌝ }
+{
+    if n < 0 {
+        return ((-1 - n) as u64) + 1;
+    }
+    n as u64
+}
+
+// A blank and a number with its sign.
+fn signed_number(n: i64) {
+    print(b" ");
+    if n < 0 {
+        print(b"-");
+    }
+    io::print_decimal(STDOUT_FILENO, magnitude(n));
+}
+
+// What the word reader answers.
+fn show_word(w: Word) {
+    match w {
+        Word::Value(value) => {
+            signed_number(value);
+        }
+        Word::Refused(refusal) => {
+            print(b" refused");
+            number(refusal as u64);
+        }
+    }
+}
+
+// Words 0, 1, 2 and the last that can be asked for, of a row; and word 0 of the row past those used.
+fn show_words(message: &[u8], rows: &[u32], used: u32, row: Row) {
+    print(b" words");
+    show_word(words::read_word(message, rows, used, row, 0));
+    print(b",");
+    show_word(words::read_word(message, rows, used, row, 1));
+    print(b",");
+    show_word(words::read_word(message, rows, used, row, 2));
+    print(b",");
+    show_word(words::read_word(message, rows, used, row, LAST_K));
+    print(b"; past the rows");
+    show_word(words::read_word(message, rows, used, Row(used), 0));
+    print(b"\n");
+}
+
+// The words of the root of the rows that the decoder left. Before the calls every word of the tables holds 7.
+fn words_of(message: &[u8]) {
+    let mut rows = [7u32; 256];
+    let mut stack = [7u32; 16];
+    let mut marks = [7u32; 8];
+    let mut registers = [7u32; 256];
+    show_bytes(message);
+    print(b"\n");
+    let d = decoder::decode(message, &mut rows, &mut stack, &mut marks, &mut registers);
+    let Decoded::Accepted(_, root, used) = d else {
+        print(b" not accepted\n");
+        return;
+    };
+    show_words(message, &rows, used, root);
+}
+
+// 01's figures; then the least and the greatest word of each format.
+fn read_words() {
+    words_of(b"2~\x01\x02~`u16be`$");
+    words_of(b"2~\x01\x02~`u16le`$");
+    words_of(b"2~\xff\xfe~`i16be`$");
+    words_of(b"2~\xff\xfe~`i16le`$");
+    words_of(b"2~\x00\xff~`u8`$");
+    words_of(b"2~\x80\x7f~`i8`$");
+    words_of(b"4~\x00\x00\xff\xff~`u16be`$");
+    words_of(b"4~\x00\x00\xff\xff~`u16le`$");
+    words_of(b"4~\x80\x00\x7f\xff~`i16be`$");
+    words_of(b"4~\x00\x80\xff\x7f~`i16le`$");
+    words_of(b"8~\x00\x00\x00\x00\xff\xff\xff\xff~`u32be`$");
+    words_of(b"8~\x00\x00\x00\x00\xff\xff\xff\xff~`u32le`$");
+    words_of(b"8~\x80\x00\x00\x00\x7f\xff\xff\xff~`i32be`$");
+    words_of(b"8~\x00\x00\x00\x80\xff\xff\xff\x7f~`i32le`$");
+}
+
+// A length that is no multiple of the width, no bytes at all, names that are not known, and tags over what is no binary.
+fn refuse_words() {
+    words_of(b"3~abc~`u16be`$");
+    words_of(b"0~~`u32le`$");
+    words_of(b"2~ab~`u16`$");
+    words_of(b"2~ab~`u16bex`$");
+    words_of(b"2~ab~`U16be`$");
+    words_of(b"2~ab~`\x00u8`$");
+    words_of(b"2~ab~`u8``u8`$");
+    words_of(b"\"ab\"`u8`$");
+    words_of(b"2~ab~$");
+}
+
 fn main() {
     show(b"");
     show(b"$");
@@ -269,4 +391,6 @@ fn main() {
         b"1 >a{aa}>a{aa}>a{aa}>a{aa}>a{aa}>a{aa}>a{aa}>a{aa}>a{aa}>a{aa}>a{aa}>a{aa}>a{aa}>a{aa}>a{aa}>a{aa}>a{aa}>a{aa}>a{aa}>a{aa}>aa$",
     );
     compare_all();
+    read_words();
+    refuse_words();
 }
