@@ -54,16 +54,16 @@ const WIDTHS: [usize; 10] = [1, 1, 2, 2, 2, 2, 4, 4, 4, 4];
 
 // Whether a word is two's complement.
 const SIGNED: [bool; 10] = [
-    false,
-    true,
-    false,
-    false,
-    true,
-    true,
-    false,
-    false,
-    true,
-    true,
+    false, // u8
+    true, // i8
+    false, // u16be
+    false, // u16le
+    true, // i16be
+    true, // i16le
+    false, // u32be
+    false, // u32le
+    true, // i32be
+    true, // i32le
 ];
 
 // The order of its bytes.
