@@ -212,7 +212,7 @@ written-reads-back message words used root scratch output w scratch′ output′
     let wr = wrote message words used root scratch output n scratch′ output′ (rw q at promise) in
     rw (wr .text, wr .count) (text-back (termAt message (rowsOf used words) root) (wr .sound) after t d u (rw (wr .text) at read))
 
-left-tables : (d : Decoded) (u : Tables) → u ≡ decodedAs d u .tables
+pub left-tables : (d : Decoded) (u : Tables) → u ≡ decodedAs d u .tables
 unfolding decodedAs decodeRefusal
 left-tables (Accepted consumed root used) u = refl
 left-tables (Refused number place) u = refl

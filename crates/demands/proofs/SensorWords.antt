@@ -14,17 +14,26 @@ use Rattle.format.specs.Sound.{countFits, rootAmong, soundRows, soundTable}
 use Rattle.format.specs.Term.{Term, binary, tag}
 use Rattle.format.specs.Word as F
 use Rattle.format.specs.Word.{Format, noWord, wordIn, wordUnder, wordNamed, wordOfTerm}
-use Rattle.format.specs.Answer.{wordAnswer}
+use Rattle.format.specs.Answer as A
+use Rattle.format.specs.Answer.{Tables, decodeAnswer, wordAnswer}
+use Rattle.format.specs.declared.Offset.{Offset}
+use Rattle.format.specs.declared.Row.{Row}
 use Rattle.format.proofs.Decoded.{accepts}
 use Rattle.format.proofs.Simulation.{terms-length}
 use Rattle.format.proofs.TableRows.{passed}
 use Rattle.format.proofs.Tests.{true-of}
 use Rattle.table.proofs.Rows.{length-rows}
+use Rattle.decoder.specs.declared.Decoded.{Decoded}
+use Rattle.decoder.specs.declared.Decoded.the-variants as D
+use Rattle.decoder.specs.declared.Decoded.the-variants.{Accepted}
+use Rattle.decoder.specs.Answers.{decodedAs}
 use Rattle.words.specs.Answers.{wordAs}
 use Rattle.words.specs.declared.Word.{Word}
 use Rattle.words.specs.declared.Word.the-variants.{Value, Refused}
-use Rattle.demands.specs.Demand2.{ReadsWord, AcceptedWords}
-use Rattle.demands.proofs.Demand2.{number, demand2}
+use Rattle.demands.specs.Demand2.{inTerms, machineSays, ReadsWord, AcceptedWords, wordRead, wordFound, wordSays}
+use Rattle.demands.specs.declared.MessageWord.{MessageWord}
+use Rattle.demands.specs.declared.MessageWord.the-variants.{NotDecoded}
+use Rattle.demands.proofs.Demand2.{number, demand2, left-tables}
 
 -- an answer by its numbers
 refused-of : (w : Word) (n : ℕ) → 0 < n → wordAs w ≡ noWord n → w ≡ Refused n
@@ -70,9 +79,43 @@ sound-at message words used root row h l =
     let p = passed message words used root h in
     rw (le-leb used (rowRoom words) (p .fits), lt-ltb row used l, true-of (soundRows message (rowsOf used words)) (p .rows)) refl
 
-pub accepted-words : AcceptedWords
-unfolding wordAnswer wordOfTerm wordNamed wordUnder
-accepted-words message t u consumed root used promise row name bytes at f known k w answer numbered =
+-- `read_word`, on the table that `decode` left of an accepted message, answers by the term at the row
+row-word : (message : List ℕ) (t u : Tables) (consumed : ℕ) (root : Row) (used : ℕ) → decodedAs (Accepted consumed root used) u ≡ decodeAnswer message t
+    → (row : ℕ) → row < used → (k : ℕ) → wordAnswer message (u .rows) used row k ≡ wordOfTerm (termAt message (rowsOf used (u .rows)) row) k
+unfolding wordAnswer
+row-word message t u consumed root used promise row l k =
     let short = accepts message t (number message t u consumed root used promise) .inBound in
-    let sound = sound-at message (u .rows) used (root .0) (row .0) (demand2 message t _ u promise .sound consumed root used refl) (tag-among message (u .rows) used (row .0) name (binary bytes) at) in
-    reads f bytes k w (answer ∙ rw (short, sound, at, known) refl) numbered
+    rw (short, sound-at message (u .rows) used (root .0) row (demand2 message t _ u promise .sound consumed root used refl) l) refl
+
+pub accepted-words : AcceptedWords
+unfolding wordOfTerm wordNamed wordUnder
+accepted-words message t u consumed root used promise row name bytes at f known k w answer numbered =
+    let told = row-word message t u consumed root used promise (row .0) (tag-among message (u .rows) used (row .0) name (binary bytes) at) k in
+    reads f bytes k w (answer ∙ told ∙ rw (at, known) refl) numbered
+
+-- a word of a message's own term: what is answered, and the tables left
+found-read : (w : Word) → (w ≡ Refused 0 → ⊥) → wordRead w ≡ wordFound (wordAs w)
+unfolding wordRead wordFound wordAs
+found-read (Value z) h = refl
+found-read (Refused n) h = rw (ne-eqb n 0 (λ e. h (ap (λ (m : ℕ). Refused m) e))) refl
+
+module _ (message : List ℕ) (t : Tables) (k : ℕ) where
+  abbrev pub Meets : MessageWord → Tables → Type 0
+  Meets r u = (r ≡ wordSays (machineSays message t) k) × (u ≡ decodeAnswer message t .tables)
+
+  module _ (d : Decoded) (u : Tables) (promise : decodedAs d u ≡ decodeAnswer message t) where
+    left : u ≡ decodeAnswer message t .tables
+    left = left-tables d u ∙ ap (λ (a : A.Decoded). a .tables) promise
+
+    pub not-decoded : (n : ℕ) (p : Offset) → d ≡ D.Refused n p → Meets (NotDecoded n p) u
+    unfolding wordSays inTerms
+    not-decoded n p e = (rw (← demand2 message t d u promise .machine, e) refl, left)
+
+    pub decoded : (consumed : ℕ) (root : Row) (used : ℕ) → d ≡ Accepted consumed root used
+        → (w : Word) → wordAs w ≡ wordAnswer message (u .rows) used (root .0) k → (w ≡ Refused 0 → ⊥) → (r : MessageWord) → r ≡ wordRead w → Meets r u
+    unfolding wordSays inTerms
+    decoded consumed root used e w answer numbered r v =
+        let accepts-it : decodedAs (Accepted consumed root used) u ≡ decodeAnswer message t = rw e at promise in
+        let among = passed message (u .rows) used (root .0) (demand2 message t _ u accepts-it .sound consumed root used refl) .among in
+        let told = answer ∙ row-word message t u consumed root used accepts-it (root .0) among k in
+        (rw (← demand2 message t d u promise .machine, e) (v ∙ found-read w numbered ∙ ap wordFound told), left)

@@ -15,7 +15,8 @@ use Rattle.format.specs.Rows.{rowsOf, termAt}
 use Rattle.format.specs.Sound.{soundTable}
 use Rattle.format.specs.Term.{Term, binary, tag}
 use Rattle.format.specs.Text.{plain}
-use Rattle.format.specs.Word.{Format, formats, formatIn, wordOf}
+use Rattle.format.specs.Word as F
+use Rattle.format.specs.Word.{Format, formats, formatIn, wordOf, wordOfTerm}
 use Rattle.format.specs.Answer.{Tables, overBound, limitsOf, decodeAnswer, writeAnswer, wordAnswer, SameLengths}
 use Rattle.format.specs.declared.Offset.{Offset}
 use Rattle.format.specs.declared.Row.{Row}
@@ -30,6 +31,8 @@ use Rattle.words.specs.declared.Word.{Word}
 use Rattle.words.specs.declared.Word.the-variants as W
 use Rattle.demands.specs.declared.RoundTrip.{RoundTrip}
 use Rattle.demands.specs.declared.RoundTrip.the-variants.{NotWritten, Read, NotRead}
+use Rattle.demands.specs.declared.MessageWord.{MessageWord}
+use Rattle.demands.specs.declared.MessageWord.the-variants.{NotDecoded, NoWord, Value}
 
 -- what `decode` answers, with the term that the root row of the table left behind stands for
 unfoldable pub inTerms : List ℕ → Decoded → Tables → Outcome (Result termValues)
@@ -139,3 +142,17 @@ AcceptedWords =
     → (f : Format) → formatIn formats name ≡ some f
     → (k : ℕ) (w : Word) → wordAs w ≡ wordAnswer message (u .rows) used (row .0) k → (w ≡ W.Refused 0 → ⊥)
     → ReadsWord f bytes k w
+
+-- the answer of `read_word` as that of a function that decodes a message first
+unfoldable pub wordRead : Word → MessageWord
+wordRead (W.Value z) = Value z
+wordRead (W.Refused number) = NoWord number
+
+-- the word, or the number of a refusal
+unfoldable pub wordFound : F.Word → MessageWord
+wordFound w = cond (eqb (w .number) 0) (Value (w .value)) (NoWord (w .number))
+
+-- what a function that decodes a message and reads word k of its term has to answer, from what the machine at terms says of the message
+unfoldable pub wordSays : Outcome (Result termValues) → ℕ → MessageWord
+wordSays (refused number place) k = NotDecoded number (record { 0 = place })
+wordSays (accepted consumed r) k = wordFound (wordOfTerm (r .root) k)

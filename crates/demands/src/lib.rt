@@ -9,13 +9,14 @@ ghost use Rattle.decoder.specs.Answers.{decodedAs, tables};
 ghost use Rattle.text.specs.Answers.{writtenAs};
 ghost use Rattle.comparison.specs.Answers.{comparedAs};
 ghost use Rattle.demands.specs.Demand1.{DecodeTouches, WriteTouches, CompareTouches};
-ghost use Rattle.demands.specs.Demand2.{DecodeMeans, machineSays, reading, tripAs, tripSays, tripLeaves, buffers, isLimit};
+ghost use Rattle.demands.specs.Demand2.{DecodeMeans, machineSays, reading, tripAs, tripSays, tripLeaves, buffers, isLimit, wordRead, wordSays};
 ghost use Rattle.demands.specs.Demand3.{verdict, comparisonSays, comparisonLeaves, comparisonBuffers};
 use comparison::Compared;
 use decoder::Decoded;
 use format::Offset;
 use format::Row;
 use text::Written;
+use words::Word;
 
 // Decodes a message: what it leaves behind (demand 1), and the term that it means (demand 2).
 pub fn decode(
@@ -87,6 +88,44 @@ pub fn round_trip(
         Written::Refused(number) => RoundTrip::NotWritten(number),
         Written::Bytes(n) => {
             read_answer(decoder::decode(&output[..n], back, stack, marks, registers))
+        }
+    }
+}
+
+// A message decoded, and a word of its term: the refusal of the message; the refusal of the word; or the word.
+pub enum MessageWord {
+    NotDecoded(u8, Offset),
+    NoWord(u8),
+    Value(i64),
+}
+
+// The answer of a reading.
+fn word_answer(w: Word) -> MessageWord
+    ensures { λ r. ⌜ r ≡ wordRead w ⌝ }
+{
+    match w {
+        Word::Value(value) => MessageWord::Value(value),
+        Word::Refused(number) => MessageWord::NoWord(number),
+    }
+}
+
+// Decodes a message whose term is a sensor block, and reads word k of it in the order that its tag names (demand 2).
+pub fn message_word(
+    message: &[u8],
+    rows: &mut [u32],
+    stack: &mut [u32],
+    marks: &mut [u32],
+    registers: &mut [u32],
+    k: u64,
+) -> MessageWord
+    ensures { λ r. ⌜ r ≡ wordSays (machineSays (now (message .entry)) (tables (now (rows .entry)) (now (stack .entry)) (now (marks .entry)) (now (registers .entry)))) k ⌝ }
+    ensures { λ r. ⌜ tables (now (rows .exit)) (now (stack .exit)) (now (marks .exit)) (now (registers .exit)) ≡ decodeAnswer (now (message .entry)) (tables (now (rows .entry)) (now (stack .entry)) (now (marks .entry)) (now (registers .entry))) .tables ⌝ }
+{
+    let d = decoder::decode(message, rows, stack, marks, registers);
+    match d {
+        Decoded::Refused(number, place) => MessageWord::NotDecoded(number, place),
+        Decoded::Accepted(_, root, used) => {
+            word_answer(words::read_word(message, rows, used, root, k))
         }
     }
 }
