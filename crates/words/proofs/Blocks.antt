@@ -37,8 +37,8 @@ word-span : (message : List ℕ) (start n j w : ℕ) → start + n ≤ length me
 word-span message start n j w inside h =
     part (drop start message) n j w h (rw (length-drop start message) (omega arith)) ∙ ap (take w) (drop-drop j start message)
 
--- word k of the n bytes from `start` on, in a message of bytes
-module _ (message : List ℕ) (start n : ℕ) (inside : start + n ≤ length message) (known : (i : ℕ) → getD message i 0 < 256) (layout : Layout) (k : ℕ) where
+-- word k of the n bytes from `start` on
+module _ (message : List ℕ) (start n : ℕ) (inside : start + n ≤ length message) (layout : Layout) (k : ℕ) where
   abbrev w : ℕ
   w = layout .width
 
@@ -47,23 +47,23 @@ module _ (message : List ℕ) (start n : ℕ) (inside : start + n ≤ length mes
 
   pub uneven : (n % w ≡ 0 → ⊥) → Answers (Refused 19) answer
   unfolding wordIn formatOf
-  uneven h = refuses 19 answer (omega arith) (rw (span-length message start n inside known, ne-eqb (n % w) 0 h) refl)
+  uneven h = refuses 19 answer (omega arith) (rw (span-length message start n inside, ne-eqb (n % w) 0 h) refl)
 
   pub no-word : n % w ≡ 0 → n / w ≤ k → Answers (Refused 20) answer
   unfolding wordIn formatOf
-  no-word e h = refuses 20 answer (omega arith) (rw (span-length message start n inside known, eq-eqb (n % w) 0 e, le-leb (n / w) k h) refl)
+  no-word e h = refuses 20 answer (omega arith) (rw (span-length message start n inside, eq-eqb (n % w) 0 e, le-leb (n / w) k h) refl)
 
   module _ (h : k < n / w) where
     pub word-end : start + k * w + w ≤ length message
     word-end = omega (arith, word-inside n w k h)
 
-    -- its bits, of all the widths
-    pub bits-below : (bits : ℕ) (o : Order) → bits ≡ joined o (spanOf message (start + k * w) w) → bits < 2 ^ (8 * w)
-    bits-below bits o e =
+    -- no more bits than the width has
+    pub bits-below : ((i : ℕ) → getD message i 0 < 256) → (bits : ℕ) (o : Order) → bits ≡ joined o (spanOf message (start + k * w) w) → bits < 2 ^ (8 * w)
+    bits-below known bits o e =
         let below = joined-below o (spanOf message (start + k * w) w) (span-bytes message (start + k * w) w word-end known) in
-        rw e (rw (span-length message (start + k * w) w word-end known) at below)
+        rw e (rw (span-length message (start + k * w) w word-end) at below)
 
     pub one-word : n % w ≡ 0 → (bits : ℕ) → bits ≡ joined (orderOf (layout .order)) (spanOf message (start + k * w) w) → (z : ℤ) → z ≡ cond (layout .signed) (fromBits (8 * w) bits) (pos bits) → Answers (Value z) answer
     unfolding wordIn wordOf formatOf
     one-word e bits b z v =
-        answers z answer (rw (span-length message start n inside known, eq-eqb (n % w) 0 e, lt-leb (n / w) k h, word-span message start n (k * w) w inside (word-inside n w k h), ← b, ← v) refl)
+        answers z answer (rw (span-length message start n inside, eq-eqb (n % w) 0 e, lt-leb (n / w) k h, word-span message start n (k * w) w inside (word-inside n w k h), ← b, ← v) refl)

@@ -93,9 +93,9 @@ pub joined-same : (x y : List ℕ) → length x ≡ length y → T (areBytes x) 
 unfolding joined
 joined-same x y l p q e = join-same x y 0 0 l p q e .1
 
--- a byte more makes a word 256 times as wide
-pub byte-wider : (n : ℕ) → 2 ^ (8 * suc n) ≡ 256 * 2 ^ (8 * n)
-byte-wider n = let e : 8 * suc n ≡ 8 + 8 * n = omega arith in rw e (pow-add 2 8 (8 * n))
+-- a byte more makes 256 times as many values
+byte-more : (n : ℕ) → 2 ^ (8 * suc n) ≡ 256 * 2 ^ (8 * n)
+byte-more n = let e : 8 * suc n ≡ 8 + 8 * n = omega arith in rw e (pow-add 2 8 (8 * n))
 
 join-below : (high : ℕ) (bytes : List ℕ) → T (areBytes bytes) → joinAfter high bytes < (high + 1) * 2 ^ (8 * length bytes)
 unfolding joinAfter
@@ -104,7 +104,7 @@ join-below high (b ∷ bytes) p =
     let u : b < 256 = ltb→lt b 256 (left-of (ltb b 256) (areBytes bytes) p) in
     let wide : high * 256 + b + 1 ≤ (high + 1) * 256 = omega arith in
     let widened = mul-le-mul-right (2 ^ (8 * length bytes)) wide in
-    rw (byte-wider (length bytes), ← mul-assoc (high + 1) 256 (2 ^ (8 * length bytes))) (lt-of-lt-of-le (join-below (high * 256 + b) bytes (right-of (ltb b 256) (areBytes bytes) p)) widened)
+    rw (byte-more (length bytes), ← mul-assoc (high + 1) 256 (2 ^ (8 * length bytes))) (lt-of-lt-of-le (join-below (high * 256 + b) bytes (right-of (ltb b 256) (areBytes bytes) p)) widened)
 
 -- every width: so many bytes, joined in either order, are a number of eight times as many bits
 pub joined-below : (o : Order) (bytes : List ℕ) → T (areBytes bytes) → joined o bytes < 2 ^ (8 * length bytes)
@@ -125,8 +125,8 @@ pub none-joined : (message : List ℕ) (from n : ℕ) (o : Order) → Joins mess
 unfolding joinAfter
 none-joined message from n o = refl
 
--- the n bytes from `from` on of a message, whose elements are bytes
-module _ (message : List ℕ) (from n : ℕ) (inside : from + n ≤ length message) (known : (i : ℕ) → getD message i 0 < 256) where
+-- the n bytes from `from` on of a message
+module _ (message : List ℕ) (from n : ℕ) (inside : from + n ≤ length message) where
   abbrev span : List ℕ
   span = spanOf message from n
 
@@ -136,8 +136,8 @@ module _ (message : List ℕ) (from n : ℕ) (inside : from + n ≤ length messa
   span-at : (i : ℕ) → i < n → getD span i 0 ≡ getD message (from + i) 0
   span-at i h = getD-take n (drop from message) i 0 h ∙ getD-drop from message i 0
 
-  pub span-bytes : T (areBytes span)
-  span-bytes = bytes-of span (λ i h. rw (span-at i (rw span-length at h)) (known (from + i)))
+  pub span-bytes : ((i : ℕ) → getD message i 0 < 256) → T (areBytes span)
+  span-bytes known = bytes-of span (λ i h. rw (span-at i (rw span-length at h)) (known (from + i)))
 
   -- joined one after the other
   module _ (o : Order) where
@@ -162,8 +162,8 @@ module _ (message : List ℕ) (from n : ℕ) (inside : from + n ≤ length messa
     all-joined value j = rw (joined-ordered o span) (rw (take-all n turned (omega (arith, turned-length))) at j)
 
     -- so that a value has no more bits than its bytes
-    pub value-below : (i value : ℕ) → i ≤ n → after i value → value < 2 ^ (8 * i)
-    value-below i value h j =
+    value-below : ((i : ℕ) → getD message i 0 < 256) → (i value : ℕ) → i ≤ n → after i value → value < 2 ^ (8 * i)
+    value-below known i value h j =
         let taken = take i turned in
         let short : length taken ≡ i = length-take-le i turned (rw turned-length h) in
         let byte : (k : ℕ) → k < i → getD taken k 0 < 256 = λ k u. rw (getD-take i turned k 0 u, turned-at k (omega arith)) (known (from + placeOf o n k)) in
@@ -171,8 +171,8 @@ module _ (message : List ℕ) (from n : ℕ) (inside : from + n ≤ length messa
         rw (j, ← joined-ordered big taken) (rw short at below)
 
     -- and one byte more still fits where all of them do
-    pub fits-more : (i value b : ℕ) → i < n → after i value → b < 256 → 8 * n ≤ 64 → value * 256 + b < 2 ^ 64
-    fits-more i value b h j u room =
-        let below = value-below i value (omega arith) j in
+    pub fits-more : ((i : ℕ) → getD message i 0 < 256) → 8 * n ≤ 64 → (i value b : ℕ) → i < n → after i value → b < 256 → value * 256 + b < 2 ^ 64
+    fits-more known room i value b h j u =
+        let below = value-below known i value (omega arith) j in
         let wide : 2 ^ (8 * suc i) ≤ 2 ^ 64 = pow-mono {i = 8 * suc i} {j = 64} (omega arith) in
-        omega (arith, byte-wider i)
+        omega (arith, byte-more i)

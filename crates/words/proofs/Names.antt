@@ -1,14 +1,14 @@
 -- The constant tables follow the definition's list of formats, entry by entry, and the search through them finds what the definition finds.
-use Prim.Native.Nat.{ℕ, zero, suc, _+_, _<_}
+use Prim.Native.Nat.{ℕ, zero, suc, _+_, _*_, _<_}
 use mathlib.Core.Path.{_≡_, refl, ap, sym, _∙_}
 use mathlib.Core.Bool.{Bool, true, false, _&&_}
-use mathlib.Core.Option.{none, some}
+use mathlib.Core.Option.{Option, none, some}
 use mathlib.Core.List.{List, [], _∷_, map}
 use native.Mathlib.Numerals.{add-one}
 use native.Mathlib.Omega.{arith}
 use lib.ListN.{length, getD, drop, List·getD-map}
 use lib.Seq.{drop-cons}
-use lib.Dec.{T, leb, leb→le}
+use lib.Dec.{T, leb, leb→le, ltb, ltb→lt}
 use lib.Pow.{areBytes}
 use Rattle.format.specs.Byte.{bytesOf, sameBytes}
 use Rattle.format.specs.Word as F
@@ -40,33 +40,56 @@ head-passed f fs name h = by (sameBytes (f .name) name) refl
     by true e = absurd (h (same-bytes (f .name) name e))
     by false e = rw e refl
 
--- the names are bytes, and no more than so many
-unfoldable short : ℕ → List F.Format → Bool
-short n [] = true
-short n (f ∷ fs) = (areBytes (f .name) && leb (length (f .name)) n) && short n fs
+-- a test that every format of a list passes, and that the format found has passed
+unfoldable every : (F.Format → Bool) → List F.Format → Bool
+every test [] = true
+every test (f ∷ fs) = test f && every test fs
 
-short-at : (n : ℕ) (fs : List F.Format) → T (short n fs) → (i : ℕ) → T (areBytes (getD fs i noFormat .name))
-unfolding short noFormat
-short-at n [] t i = tt
-short-at n (f ∷ fs) t zero = left-of (areBytes (f .name)) (leb (length (f .name)) n) (left-of (areBytes (f .name) && leb (length (f .name)) n) (short n fs) t)
-short-at n (f ∷ fs) t (suc i) = short-at n fs (right-of (areBytes (f .name) && leb (length (f .name)) n) (short n fs) t) i
+at-passes : (test : F.Format → Bool) → T (test noFormat) → (fs : List F.Format) → T (every test fs) → (i : ℕ) → T (test (getD fs i noFormat))
+unfolding every
+at-passes test n [] t i = n
+at-passes test n (f ∷ fs) t zero = left-of (test f) (every test fs) t
+at-passes test n (f ∷ fs) t (suc i) = at-passes test n fs (right-of (test f) (every test fs) t) i
 
-too-long : (n : ℕ) (fs : List F.Format) → T (short n fs) → (name : List ℕ) → n < length name → formatIn fs name ≡ none
-unfolding short formatIn
-too-long n [] t name h = refl
-too-long n (f ∷ fs) t name h =
-    let head = left-of (areBytes (f .name) && leb (length (f .name)) n) (short n fs) t in
-    let fits = leb→le (length (f .name)) n (right-of (areBytes (f .name)) (leb (length (f .name)) n) head) in
-    head-passed f fs name (λ e. omega (arith, ap (λ (l : List ℕ). length l) e)) ∙ too-long n fs (right-of (areBytes (f .name) && leb (length (f .name)) n) (short n fs) t) name h
+found-passes : (test : F.Format → Bool) (fs : List F.Format) → T (every test fs) → (name : List ℕ) (f : F.Format) → formatIn fs name ≡ some f → T (test f) × (f .name ≡ name)
+unfolding every formatIn
+found-passes test [] t name f e = let z : _≡_ {A = ℕ} 0 1 = cc in absurd (omega arith)
+found-passes test (g ∷ fs) t name f e = by (sameBytes (g .name) name) refl (found-passes test fs (right-of (test g) (every test fs) t) name f)
+  where
+    by : (q : Bool) → sameBytes (g .name) name ≡ q → (formatIn fs name ≡ some f → T (test f) × (f .name ≡ name)) → T (test f) × (f .name ≡ name)
+    by true s more =
+        let told : some g ≡ some f = rw (formatIn, s) at e in
+        let h : g ≡ f = cc in
+        rw (← h) (left-of (test g) (every test fs) t, same-bytes (g .name) name s)
+    by false s more = more (rw (formatIn, s) at e)
+
+-- of the known names: they are bytes, at most five; their words have a byte or more, and fewer bits than an answer
+abbrev spelt : F.Format → Bool
+spelt f = areBytes (f .name) && leb (length (f .name)) 5
+
+abbrev sized : F.Format → Bool
+sized f = ltb 0 (f .width) && ltb (8 * f .width) 64
 
 known-bytes : (i : ℕ) → T (areBytes (getD formats i noFormat .name))
-unfolding formats format bytesOf short
-known-bytes i = short-at 5 formats tt i
+unfolding formats format bytesOf every noFormat
+known-bytes i = let f = getD formats i noFormat in left-of (areBytes (f .name)) (leb (length (f .name)) 5) (at-passes spelt tt formats tt i)
 
--- no name has more than five bytes
+pub known-size : (name : List ℕ) (f : F.Format) → formatIn formats name ≡ some f → (0 < f .width) × (8 * f .width < 64)
+unfolding formats format every
+known-size name f e =
+    let passes = found-passes sized formats tt name f e .0 in
+    (ltb→lt 0 (f .width) (left-of (ltb 0 (f .width)) (ltb (8 * f .width) 64) passes), ltb→lt (8 * f .width) 64 (right-of (ltb 0 (f .width)) (ltb (8 * f .width) 64) passes))
+
 pub long-unknown : (name : List ℕ) → 5 < length name → found (formatIn formats name) ≡ Unknown
-unfolding formats format bytesOf short found
-long-unknown name h = rw (too-long 5 formats tt name h) refl
+unfolding formats format bytesOf every found
+long-unknown name h = by (formatIn formats name) refl
+  where
+    by : (o : Option F.Format) → formatIn formats name ≡ o → found o ≡ Unknown
+    by none e = refl
+    by (some f) e =
+        let passes = found-passes spelt formats tt name f e in
+        let fits = leb→le (length (f .name)) 5 (right-of (areBytes (f .name)) (leb (length (f .name)) 5) (passes .0)) in
+        absurd (omega (arith, ap (λ (l : List ℕ). length l) (passes .1)))
 
 -- the tables of the names: each as a number, and its count of bytes
 pub record NameTables (names bytes : List ℕ) : Type 0 where

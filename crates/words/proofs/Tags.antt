@@ -1,17 +1,13 @@
 -- What a tag's name says of the words under it.
 use Prim.Native.Nat.{ℕ, _*_, _<_}
 use mathlib.Core.Path.{_≡_, refl}
-use mathlib.Core.Bool.{Bool, true, false, _&&_}
 use mathlib.Core.Option.{Option, none, some}
-use mathlib.Core.List.{List, [], _∷_}
+use mathlib.Core.List.{List}
 use native.Mathlib.Omega.{arith}
-use lib.Dec.{T, ltb, ltb→lt}
-use Rattle.format.specs.Byte.{sameBytes}
 use Rattle.format.specs.Term as T
 use Rattle.format.specs.Term.{Term}
 use Rattle.format.specs.Word as F
-use Rattle.format.specs.Word.{format, formats, formatIn, noWord, wordOf, wordIn, wordUnder, wordNamed}
-use Rattle.format.proofs.Tests.{left-of, right-of}
+use Rattle.format.specs.Word.{noWord, wordOf, wordIn, wordUnder, wordNamed}
 use Rattle.words.specs.declared.Word.{Word}
 use Rattle.words.specs.declared.formats.Layout.{Layout}
 use Rattle.words.specs.declared.formats.Found.the-variants.{Known, Unknown}
@@ -40,30 +36,7 @@ known none layout block k e r a = let z : _≡_ {A = ℕ} 0 1 = cc in absurd (om
 known (some f) layout block k e r a = let l : layout ≡ layoutOf f = cc in rw (← same-format f block k, ← l) a
 
 -- a known width is a byte or more, and its words have fewer bits than an answer
-abbrev sized : F.Format → Bool
-sized f = ltb 0 (f .width) && ltb (8 * f .width) 64
-
-unfoldable allSized : List F.Format → Bool
-allSized [] = true
-allSized (f ∷ fs) = sized f && allSized fs
-
-found-sized : (fs : List F.Format) → T (allSized fs) → (name : List ℕ) (f : F.Format) → formatIn fs name ≡ some f → T (sized f)
-unfolding allSized formatIn
-found-sized [] t name f e = let z : _≡_ {A = ℕ} 0 1 = cc in absurd (omega arith)
-found-sized (g ∷ fs) t name f e = by (sameBytes (g .name) name) refl (found-sized fs (right-of (sized g) (allSized fs) t) name f)
-  where
-    by : (q : Bool) → sameBytes (g .name) name ≡ q → (formatIn fs name ≡ some f → T (sized f)) → T (sized f)
-    by true s more = let told : some g ≡ some f = rw (formatIn, s) at e in let h : g ≡ f = cc in rw (← h) (left-of (sized g) (allSized fs) t)
-    by false s more = more (rw (formatIn, s) at e)
-
-width-of : (o : Option F.Format) (layout : Layout) → Known layout ≡ found o → ((f : F.Format) → o ≡ some f → T (sized f)) → (0 < layout .width) × (8 * layout .width < 64)
+pub known-width : (o : Option F.Format) (layout : Layout) → Known layout ≡ found o → ((f : F.Format) → o ≡ some f → (0 < f .width) × (8 * f .width < 64)) → (0 < layout .width) × (8 * layout .width < 64)
 unfolding found layoutOf
-width-of none layout e h = let z : _≡_ {A = ℕ} 0 1 = cc in absurd (omega arith)
-width-of (some f) layout e h =
-    let l : layout ≡ layoutOf f = cc in
-    let good = h f refl in
-    rw l (ltb→lt 0 (f .width) (left-of (ltb 0 (f .width)) (ltb (8 * f .width) 64) good), ltb→lt (8 * f .width) 64 (right-of (ltb 0 (f .width)) (ltb (8 * f .width) 64) good))
-
-pub known-width : (name : List ℕ) (layout : Layout) → Known layout ≡ found (formatIn formats name) → (0 < layout .width) × (8 * layout .width < 64)
-unfolding formats format allSized
-known-width name layout e = width-of (formatIn formats name) layout e (found-sized formats tt name)
+known-width none layout e h = let z : _≡_ {A = ℕ} 0 1 = cc in absurd (omega arith)
+known-width (some f) layout e h = let l : layout ≡ layoutOf f = cc in rw l (h f refl)

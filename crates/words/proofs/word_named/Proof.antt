@@ -3,6 +3,7 @@ use mathlib.Core.Path.{sym, _∙_}
 use native.Mathlib.Omega.{arith}
 use borrow.Author.Needs.{needs}
 use Rattle.words.proofs.Answered.{refuses}
+use Rattle.words.proofs.Names.{known-size}
 use Rattle.words.proofs.Tags as laws
 use Rattle.words.proofs.word_named.Statement.{statement}
 use Rattle.words.proofs.word_named.Tie as tie
@@ -34,7 +35,7 @@ cast-word-in c = search needs
 word-in-requires : tie.Need-word-in-requires
 word-in-requires c κs =
     let at = c .before .before .before in
-    let wide = laws.known-width _ _ (sym (at .found .given .1) ∙ at .before .before .find .ensures) in
+    let wide = laws.known-width _ _ (sym (at .found .given .1) ∙ at .before .before .find .ensures) (known-size _) in
     (at .before .before .before .before .before .before .pre .1, wide .0, wide .1)
 
 returns-2 : tie.Need-returns-2

@@ -1,9 +1,9 @@
 -- `words::formats::find` meets its contract: the names passed so far are not the one that is looked for.
-use Prim.Native.Nat.{ℕ, _-_, _≤_, _<_}
+use Prim.Native.Nat.{_-_, _≤_}
 use mathlib.Core.Path.{_≡_, refl, sym}
 use native.Mathlib.Omega.{arith}
 use borrow.Author.Needs.{needs}
-use lib.ListN.{length, getD}
+use lib.ListN.{length}
 use lib.Dec.{T}
 use lib.Pow.{areBytes}
 use denote.Ref.{now}
@@ -22,16 +22,12 @@ Inv-loop message n name names bytes i₀ i = (i ≤ 10) × laws.NameTables names
 abbrev μ-loop : tie.MeasureT-loop
 μ-loop message n name names bytes i₀ i = 10 - i
 
--- the message's elements are bytes
-known : (c : tie.After-shared-slice-known Inv-loop μ-loop) (i : ℕ) → getD (now (c .before .args .message)) i 0 < 256
-known c i = omega (arith, c .shared-slice-known .given i)
-
 -- the name that is looked for: its bytes, and how many they are
 name-bytes : (c : tie.After-shared-slice-known Inv-loop μ-loop) → let a = c .before .args in T (areBytes (spanOf (now (a .message)) (a .start .0) (a .n)))
-name-bytes c = let a = c .before .args in span-bytes (now (a .message)) (a .start .0) (a .n) (c .before .pre) (known c)
+name-bytes c = let a = c .before .args in span-bytes (now (a .message)) (a .start .0) (a .n) (c .before .pre) (λ i. omega (arith, c .shared-slice-known .given i))
 
 name-length : (c : tie.After-shared-slice-known Inv-loop μ-loop) → let a = c .before .args in length (spanOf (now (a .message)) (a .start .0) (a .n)) ≡ a .n
-name-length c = let a = c .before .args in span-length (now (a .message)) (a .start .0) (a .n) (c .before .pre) (known c)
+name-length c = let a = c .before .args in span-length (now (a .message)) (a .start .0) (a .n) (c .before .pre)
 
 returns : tie.Need-returns Inv-loop μ-loop
 returns c = sym (laws.long-unknown _ (omega (arith, name-length (c .before), c .if1 .taken)))

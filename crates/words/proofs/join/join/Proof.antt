@@ -49,7 +49,7 @@ fits c =
     let start = at .before in
     let a = start .before .args in
     let p = start .before .pre in
-    laws.fits-more (now (a .message)) (a .start .0) (a .n) (p .0) (known start) (orderOf (a .order)) (at .loop .i) (at .loop .value) _ (c .before .before .loop-test .taken) (at .loop .inv .1) (known start _) (p .1)
+    laws.fits-more (now (a .message)) (a .start .0) (a .n) (p .0) (orderOf (a .order)) (known start) (p .1) (at .loop .i) (at .loop .value) _ (c .before .before .loop-test .taken) (at .loop .inv .1) (known start _)
 
 mul-value : tie.Need-mul-value Inv-loop μ-loop
 mul-value c = record { fits = omega (arith, fits c) }
@@ -69,7 +69,7 @@ loop-again c =
     let start = at .before in
     let a = start .before .args in
     let taken = c .before .before .loop-test .taken in
-    (omega (arith, taken), rw (c .before .place .ensures) (laws.one-joined (now (a .message)) (a .start .0) (a .n) (start .before .pre .0) (known start) (orderOf (a .order)) (at .loop .i) (at .loop .value) taken (at .loop .inv .1)))
+    (omega (arith, taken), rw (c .before .place .ensures) (laws.one-joined (now (a .message)) (a .start .0) (a .n) (start .before .pre .0) (orderOf (a .order)) (at .loop .i) (at .loop .value) taken (at .loop .inv .1)))
 
 returns : tie.Need-returns Inv-loop μ-loop
 returns c =
@@ -77,7 +77,7 @@ returns c =
     let start = at .before in
     let a = start .before .args in
     let all : at .loop .i ≡ a .n = omega (arith, at .loop .inv .0, c .loop-test .left) in
-    laws.all-joined (now (a .message)) (a .start .0) (a .n) (start .before .pre .0) (known start) (orderOf (a .order)) (at .loop .value) (rw all at (at .loop .inv .1))
+    laws.all-joined (now (a .message)) (a .start .0) (a .n) (start .before .pre .0) (orderOf (a .order)) (at .loop .value) (rw all at (at .loop .inv .1))
 
 pub join-spec : {M : Type 1} → statement M
 join-spec =
