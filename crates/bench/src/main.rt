@@ -254,16 +254,20 @@ fn compare_all() {
     against(b"2~ab~$", b"3~abc~$");
 }
 
+// The code of a byte.
+fn show_code(b: u8) {
+    print(b"\\x");
+    io::print_hex(STDOUT_FILENO, b as u64, 2);
+}
+
 // A byte as it is, or by its code where it cannot be seen.
 fn show_byte(b: u8) {
     if b < b' ' {
-        print(b"\\x");
-        io::print_hex(STDOUT_FILENO, b as u64, 2);
+        show_code(b);
         return;
     }
     if b'~' < b {
-        print(b"\\x");
-        io::print_hex(STDOUT_FILENO, b as u64, 2);
+        show_code(b);
         return;
     }
     let one = [b];

@@ -16,9 +16,8 @@ use Rattle.format.specs.Sound.{countFits, rootAmong, soundRow, soundRest, sound
 use Rattle.format.proofs.SameBytes.{same-bytes, same-refl}
 use Rattle.format.proofs.SoundTerms.{table-term}
 use Rattle.format.proofs.TableRows as R
-use Rattle.format.proofs.TableRows.{judged}
+use Rattle.format.proofs.TableRows.{length-rows, judged}
 use Rattle.format.proofs.Tests.{both, either}
-use Rattle.table.proofs.Rows.{length-rows}
 use Rattle.comparison.specs.Classes.{Side, Sound, termIn, sameTerm}
 use Rattle.comparison.specs.Same.{placed, hasSpan, SpanInside, sameSpan, sameClass, sameCell, sameContent, sameRow}
 use Rattle.comparison.proofs.SameTerms.{never, both-of, same-of, same-is, same-term}

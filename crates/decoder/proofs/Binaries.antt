@@ -19,7 +19,8 @@ use Rattle.format.specs.Machine.{base, step}
 use Rattle.format.specs.Rows.{Row, row, rowValues, rowAt, rowsOf, rowInteger, integerOfRow, isListKind, makeRows, add, integerKind, binaryKind, nilKind, consKind, spanRow, nilRow, consRow}
 use Rattle.format.specs.Answer.{Tables}
 use Rattle.table.specs.Words.{rowIn, lastFirst}
-use Rattle.table.proofs.Rows.{length-rows, row-in}
+use Rattle.format.proofs.TableRows.{length-rows}
+use Rattle.table.proofs.Rows.{row-in}
 use Rattle.decoder.specs.declared.binary.Count.the-variants.{Of, NoInteger, Negative}
 use Rattle.decoder.specs.declared.state.State.{State}
 use Rattle.decoder.specs.Answers.{tables}

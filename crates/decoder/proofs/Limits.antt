@@ -16,7 +16,8 @@ use Rattle.decoder.specs.declared.state.State.{State}
 use Rattle.decoder.specs.declared.state.Answer.the-variants.{More, Refused}
 use Rattle.decoder.specs.Answers.{tables}
 use Rattle.decoder.specs.Held.{Ready, Turn, goes, stops, machineOf, turn, after, limited, withRow, made}
-use Rattle.table.proofs.Rows.{length-rows, stored-after, pushed, length-lastFirst}
+use Rattle.format.proofs.TableRows.{length-rows}
+use Rattle.table.proofs.Rows.{stored-after, pushed, length-lastFirst}
 
 -- a refusal, as the code answers it
 pub refusal : {x : Turn} (n : ℕ) (p : Offset) (t : Tables) → x ≡ stops n (p .0) → turn (Refused n p) t ≡ x

@@ -18,7 +18,8 @@ use Rattle.decoder.specs.declared.state.State.{State}
 use Rattle.decoder.specs.declared.state.Answer.the-variants.{More}
 use Rattle.decoder.specs.Answers.{tables}
 use Rattle.decoder.specs.Held.{Ready, stops, registerIn, machineOf, turn, taken}
-use Rattle.table.proofs.Rows.{length-rows, pushed, length-lastFirst, drop-lastFirst, tuple-rows}
+use Rattle.format.proofs.TableRows.{length-rows}
+use Rattle.table.proofs.Rows.{pushed, length-lastFirst, drop-lastFirst, tuple-rows}
 use Rattle.table.proofs.Tuple.{length-tuple}
 use Rattle.decoder.proofs.Limits.{stored, refused-step, no-rows, no-stack, room-for}
 

@@ -20,9 +20,8 @@ use Rattle.format.specs.declared.Offset.{Offset}
 use Rattle.format.specs.declared.Row.{Row}
 use Rattle.format.proofs.Decoded.{accepts}
 use Rattle.format.proofs.Simulation.{terms-length}
-use Rattle.format.proofs.TableRows.{passed}
+use Rattle.format.proofs.TableRows.{length-rows, passed}
 use Rattle.format.proofs.Tests.{true-of}
-use Rattle.table.proofs.Rows.{length-rows}
 use Rattle.decoder.specs.declared.Decoded.{Decoded}
 use Rattle.decoder.specs.declared.Decoded.the-variants as D
 use Rattle.decoder.specs.declared.Decoded.the-variants.{Accepted}

@@ -7,16 +7,22 @@ use mathlib.Core.Bool.{Bool, true, false, _&&_}
 use mathlib.Core.List.{List, [], _∷_, _++_, append-assoc}
 use native.Mathlib.Nat.{add-zero, zero-add}
 use native.Mathlib.Omega.{arith}
-use lib.ListN.{length, getD, length-append, List·getD-append}
+use lib.ListN.{length, getD, drop, length-append, List·getD-append}
 use lib.Seq.{getD-append-seam}
 use lib.Dec.{eqb, ltb, T, ltb→lt, leb→le}
 use borrow.Author.Tests.{eqb-true, eqb-false}
 use Rattle.format.specs.Term as T
 use Rattle.format.specs.Term.{Term, _then_}
 use Rattle.format.specs.Meaning.{itemsOf}
-use Rattle.format.specs.Rows.{Row, row, rowAt, rowsOf, rowRoom, integerKind, atomKind, stringKind, binaryKind, nilKind, consKind, endKind, fieldKind, tagKind, integerOfRow, spanOf, fieldsOf, noTerm, termOfRow, termsAfter, termAt}
+use Rattle.format.specs.Rows.{Row, row, rowAt, rowWords, rowsOf, rowRoom, integerKind, atomKind, stringKind, binaryKind, nilKind, consKind, endKind, fieldKind, tagKind, integerOfRow, spanOf, fieldsOf, noTerm, termOfRow, termsAfter, termAt}
 use Rattle.format.specs.Sound.{inSlice, spelled, spelledIn, countFits, rootAmong, soundRow, soundRest, soundAfter, soundRows, soundTable}
 use Rattle.format.proofs.Tests.{left-of, right-of, either}
+
+-- as many rows lie in words as are read there
+pub length-rows : (used : ℕ) (words : List ℕ) → length (rowsOf used words) ≡ used
+unfolding rowsOf
+length-rows zero words = refl
+length-rows (suc n) words = ap suc (length-rows n (drop rowWords words))
 
 -- what the test of a table says: its rows have room, its root is among them, and each of them is sound
 pub record Passed (message words : List ℕ) (used root : ℕ) : Type 0 where

@@ -10,10 +10,10 @@ use lib.Seq.{take-suc, drop-cons, getD-take, length-take-le}
 use lib.Dec.{T, eqb}
 use Rattle.format.specs.Rows.{Row, row, rowAt, rowsOf, rowRoom}
 use Rattle.format.specs.Sound.{soundRow, soundRest, soundAfter, soundRows}
-use Rattle.format.proofs.TableRows.{rest-kind}
+use Rattle.format.proofs.TableRows.{length-rows, rest-kind}
 use Rattle.format.proofs.Tests.{None, is-none}
 use Rattle.table.specs.Words.{rowIn}
-use Rattle.table.proofs.Rows.{length-rows, row-of}
+use Rattle.table.proofs.Rows.{row-of}
 
 -- a kind that is none of the nine
 pub no-kind : (message : List ℕ) (i : ℕ) (r : Row) → None 1 9 (r .kind) → soundRow message i r ≡ false

@@ -99,11 +99,6 @@ row-in words mem v h = cases (ltb v (rowRoom words)) refl
         let past = ltb-false v (rowRoom words) e in
         row-outside (rowsIn words mem) v (rw (same-room words mem h) past) ∙ sym (List·getD-eq-default mem (row 0 0 0 0) (omega arith))
 
-pub length-rows : (used : ℕ) (words : List ℕ) → length (rowsOf used words) ≡ used
-unfolding rowsOf
-length-rows zero words = refl
-length-rows (suc n) words = ap suc (length-rows n (drop rowWords words))
-
 rows-at : (used : ℕ) (words : List ℕ) (i : ℕ) → i < used → rowFrom words (i * rowWords) ≡ rowAt (rowsOf used words) i
 unfolding rowsOf rowAt
 rows-at zero words i h = absurd (omega arith)

@@ -14,9 +14,9 @@ use Rattle.format.specs.Bound.{messageBound, rowBound}
 use Rattle.format.specs.Rows.{rowAt, rowsOf, rowRoom, termAt}
 use Rattle.format.specs.Sound.{soundRows, soundTable}
 use Rattle.format.specs.Text.{plain}
-use Rattle.format.proofs.TableRows.{Passed, passed}
+use Rattle.format.proofs.TableRows.{length-rows, Passed, passed}
 use Rattle.table.specs.Words.{lastFirst, rowIn}
-use Rattle.table.proofs.Rows.{length-rows, row-of, length-lastFirst}
+use Rattle.table.proofs.Rows.{row-of, length-lastFirst}
 use Rattle.text.specs.declared.piece.Piece.{Piece}
 use Rattle.text.specs.declared.piece.Piece.the-variants.{Nothing, Byte, Integer, Quoted, Binary}
 use Rattle.text.specs.declared.walk.Turn.{Turn}

@@ -5,11 +5,12 @@ use mathlib.Core.Path.{_≡_, ap, sym, _∙_}
 use mathlib.Core.Bool.{Bool, true, false}
 use mathlib.Core.List.{List, [], _∷_, _++_}
 use native.Mathlib.Omega.{arith}
-use lib.ListN.{length, length-append, length-take, length-drop}
+use lib.ListN.{length, length-append}
 use lib.Seq.{sets}
 use Rattle.format.specs.declared.Offset.{Offset}
 use Rattle.format.specs.Text.{naturalOn, between}
 use Rattle.format.specs.Rows.{spanOf}
+use Rattle.format.proofs.Lists.{length-span}
 use Rattle.format.proofs.Sizes.{natural-onto}
 use Rattle.text.specs.Pieces.{integerBytes, bytesOf, Inside}
 use Rattle.text.specs.declared.piece.Piece.{Piece}
@@ -18,9 +19,6 @@ use Rattle.text.proofs.Stores.{Stored, stored-both}
 
 length-after : (n : ℕ) (rest : List ℕ) → length (naturalOn n rest) ≡ length (naturalOn n []) + length rest
 length-after n rest = ap length (natural-onto n [] rest) ∙ length-append (naturalOn n []) rest
-
-pub length-span : (message : List ℕ) (start n : ℕ) → start + n ≤ length message → length (spanOf message start n) ≡ n
-length-span message start n h = simp (length-take, length-drop) (omega arith)
 
 pub length-magnitude : (n : ℕ) → length (integerBytes false n) ≡ length (naturalOn n []) + 1
 unfolding integerBytes

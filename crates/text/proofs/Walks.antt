@@ -17,12 +17,12 @@ use Rattle.format.specs.Text.{naturalOn, decimalOn, between, textOn, itemsOn}
 use Rattle.format.specs.Rows.{Row, rowAt, spanOf, fieldsOf, isListKind, isTupleKind, integerKind, atomKind, stringKind, binaryKind, nilKind, consKind, endKind, fieldKind, tagKind, integerOfRow}
 use Rattle.format.specs.Sound.{soundRow, soundRest, soundRows}
 use Rattle.format.proofs.Sizes.{between-onto, text-onto}
+use Rattle.format.proofs.Lists.{length-span}
 use Rattle.format.proofs.TableRows as R
 use Rattle.format.proofs.TableRows.{judged}
 use Rattle.text.specs.declared.piece.Piece.{Piece}
 use Rattle.text.specs.Pieces.{integerBytes, bytesOf, Inside}
 use Rattle.text.specs.Walk.{value, rest, item, fields, tail, ampersand, brace, tagged, entry, Next, gives, integerPiece, valueTurn, restTurn, turnOf}
-use Rattle.text.proofs.Pieces.{length-span}
 use Rattle.text.proofs.Turns as turns
 use Rattle.text.proofs.Pending as P
 use Rattle.text.proofs.Pending.{rank, term, entryOn, pending, pending-entry, Ready, Above, Onward, popped, stays, climbed}

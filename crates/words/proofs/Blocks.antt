@@ -13,11 +13,12 @@ use Rattle.format.specs.Bits.{fromBits}
 use Rattle.format.specs.Rows.{spanOf}
 use Rattle.format.specs.Word as F
 use Rattle.format.specs.Word.{Order, joined, wordOf, wordIn}
+use Rattle.format.proofs.Lists.{length-span}
 use Rattle.words.specs.declared.formats.Layout.{Layout}
 use Rattle.words.specs.declared.Word.the-variants.{Value, Refused}
 use Rattle.words.specs.Known.{orderOf, formatOf}
 use Rattle.words.proofs.Answered.{Answers, refuses, answers}
-use Rattle.words.proofs.Joins.{span-length, span-bytes, joined-below}
+use Rattle.words.proofs.Joins.{span-bytes, joined-below}
 
 -- word k ends inside the block
 word-inside : (n w k : ℕ) → k < n / w → k * w + w ≤ n
@@ -47,11 +48,11 @@ module _ (message : List ℕ) (start n : ℕ) (inside : start + n ≤ length mes
 
   pub uneven : (n % w ≡ 0 → ⊥) → Answers (Refused 19) answer
   unfolding wordIn formatOf
-  uneven h = refuses 19 answer (omega arith) (rw (span-length message start n inside, ne-eqb (n % w) 0 h) refl)
+  uneven h = refuses 19 answer (omega arith) (rw (length-span message start n inside, ne-eqb (n % w) 0 h) refl)
 
   pub no-word : n % w ≡ 0 → n / w ≤ k → Answers (Refused 20) answer
   unfolding wordIn formatOf
-  no-word e h = refuses 20 answer (omega arith) (rw (span-length message start n inside, eq-eqb (n % w) 0 e, le-leb (n / w) k h) refl)
+  no-word e h = refuses 20 answer (omega arith) (rw (length-span message start n inside, eq-eqb (n % w) 0 e, le-leb (n / w) k h) refl)
 
   module _ (h : k < n / w) where
     pub word-end : start + k * w + w ≤ length message
@@ -61,9 +62,9 @@ module _ (message : List ℕ) (start n : ℕ) (inside : start + n ≤ length mes
     pub bits-below : ((i : ℕ) → getD message i 0 < 256) → (bits : ℕ) (o : Order) → bits ≡ joined o (spanOf message (start + k * w) w) → bits < 2 ^ (8 * w)
     bits-below known bits o e =
         let below = joined-below o (spanOf message (start + k * w) w) (span-bytes message (start + k * w) w word-end known) in
-        rw e (rw (span-length message (start + k * w) w word-end) at below)
+        rw e (rw (length-span message (start + k * w) w word-end) at below)
 
     pub one-word : n % w ≡ 0 → (bits : ℕ) → bits ≡ joined (orderOf (layout .order)) (spanOf message (start + k * w) w) → (z : ℤ) → z ≡ cond (layout .signed) (fromBits (8 * w) bits) (pos bits) → Answers (Value z) answer
     unfolding wordIn wordOf formatOf
     one-word e bits b z v =
-        answers z answer (rw (span-length message start n inside, eq-eqb (n % w) 0 e, lt-leb (n / w) k h, word-span message start n (k * w) w inside (word-inside n w k h), ← b, ← v) refl)
+        answers z answer (rw (length-span message start n inside, eq-eqb (n % w) 0 e, lt-leb (n / w) k h, word-span message start n (k * w) w inside (word-inside n w k h), ← b, ← v) refl)

@@ -6,13 +6,14 @@ use mathlib.Core.List.{List, [], _∷_, _++_, reverse, reverseAux}
 use native.Mathlib.Nat.{zero-add, suc-add, add-suc, mul-le-mul-right, mul-assoc, lt-of-lt-of-le}
 use native.Mathlib.Omega.{arith}
 use native.Mathlib.Numerals.{add-one}
-use lib.ListN.{length, getD, take, drop, length-drop, length-reverse}
+use lib.ListN.{length, getD, take, drop, length-reverse}
 use lib.Seq.{length-take-le, take-suc, getD-take, getD-drop, take-all}
 use lib.Dec.{T, ltb, ltb→lt}
 use lib.Pow.{areBytes, pow-add, pow-mono}
 use borrow.Author.Tests.{lt-ltb, ltb-true, ltb-false}
 use Rattle.format.specs.Rows.{spanOf}
 use Rattle.format.specs.Word.{Order, big, little, joinAfter, joined}
+use Rattle.format.proofs.Lists.{length-span}
 use Rattle.format.proofs.Tests.{left-of, right-of, both}
 use Rattle.words.specs.Known.{placeOf}
 
@@ -130,14 +131,11 @@ module _ (message : List ℕ) (from n : ℕ) (inside : from + n ≤ length messa
   abbrev span : List ℕ
   span = spanOf message from n
 
-  pub span-length : length span ≡ n
-  span-length = length-take-le n (drop from message) (rw (length-drop from message) (omega arith))
-
   span-at : (i : ℕ) → i < n → getD span i 0 ≡ getD message (from + i) 0
   span-at i h = getD-take n (drop from message) i 0 h ∙ getD-drop from message i 0
 
   pub span-bytes : ((i : ℕ) → getD message i 0 < 256) → T (areBytes span)
-  span-bytes known = bytes-of span (λ i h. rw (span-at i (rw span-length at h)) (known (from + i)))
+  span-bytes known = bytes-of span (λ i h. rw (span-at i (rw (length-span message from n inside) at h)) (known (from + i)))
 
   -- joined one after the other
   module _ (o : Order) where
@@ -145,10 +143,10 @@ module _ (message : List ℕ) (from n : ℕ) (inside : from + n ≤ length messa
     turned = ordered o span
 
     turned-length : length turned ≡ n
-    turned-length = length-ordered o span ∙ span-length
+    turned-length = length-ordered o span ∙ length-span message from n inside
 
     turned-at : (i : ℕ) → i < n → getD turned i 0 ≡ getD message (from + placeOf o n i) 0
-    turned-at i h = rw span-length at (ordered-at o span i (rw span-length h)) ∙ span-at (placeOf o n i) (place-inside o n i h)
+    turned-at i h = rw (length-span message from n inside) at (ordered-at o span i (rw (length-span message from n inside) h)) ∙ span-at (placeOf o n i) (place-inside o n i h)
 
     abbrev after : ℕ → ℕ → Type 0
     after i value = Joins message from n o i value

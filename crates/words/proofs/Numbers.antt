@@ -27,16 +27,16 @@ module _ (w bits : ℕ) (p : (0 < w) × (8 * w < 64) × (bits < 2 ^ (8 * w))) wh
   values-fit = record { sfits = values-below }
 
   pub number-fits : SFits w64 (fromBits (8 * w) bits)
-  number-fits = record { sfits = omega (arith, values-below, two-halves w bits (p .0) (p .2), signed-range w bits (p .0) (p .2)) }
+  number-fits = record { sfits = omega (arith, values-below, two-halves w (p .0), signed-range w (p .0) bits (p .2)) }
 
   -- the machine's numbers: the bits as they are, and those less all values of the width
   pub unsigned-number : toZ w64 bits ≡ pos bits
   unsigned-number = toZ-pos w64 bits (bits-fit .sfits)
 
   pub lower-number : bits < (1 * 2 ^ (8 * w)) % 2 ^ 64 / 2 → toZ w64 bits ≡ fromBits (8 * w) bits
-  lower-number h = unsigned-number ∙ sym (lower w bits (p .0) (p .2) (rw (all-values, half-of w bits (p .0) (p .2)) at h))
+  lower-number h = unsigned-number ∙ sym (lower w (p .0) bits (p .2) (rw (all-values, half-of w (p .0)) at h))
 
   pub upper-number : (1 * 2 ^ (8 * w)) % 2 ^ 64 / 2 ≤ bits → toZ w64 bits -ℤ toZ w64 ((1 * 2 ^ (8 * w)) % 2 ^ 64) ≡ fromBits (8 * w) bits
   upper-number h =
       let values = toZ-pos w64 (2 ^ (8 * w)) values-below in
-      rw (all-values, unsigned-number, values) (sym (upper w bits (p .0) (p .2) (rw (all-values, half-of w bits (p .0) (p .2)) at h)))
+      rw (all-values, unsigned-number, values) (sym (upper w (p .0) bits (p .2) (rw (all-values, half-of w (p .0)) at h)))

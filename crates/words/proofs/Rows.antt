@@ -18,9 +18,9 @@ use Rattle.format.specs.Word.{formats, formatIn, noWord, wordUnder, wordNamed, 
 use Rattle.format.specs.Answer.{overBound, wordAnswer}
 use Rattle.format.proofs.Tests.{either}
 use Rattle.format.proofs.TableRows as R
-use Rattle.format.proofs.TableRows.{Passed, passed, judged}
+use Rattle.format.proofs.TableRows.{length-rows, Passed, passed, judged}
 use Rattle.table.specs.Words.{rowIn}
-use Rattle.table.proofs.Rows.{length-rows, row-of}
+use Rattle.table.proofs.Rows.{row-of}
 use Rattle.words.specs.declared.Word.{Word}
 use Rattle.words.specs.declared.Word.the-variants.{Refused}
 use Rattle.words.specs.Known.{wordOfRows}

@@ -20,8 +20,8 @@ less : (a b : ℕ) → a < b → pos a -ℤ pos b ≡ negsuc (b - suc a)
 less a zero h = absurd (omega arith)
 less a (suc b) h = rw (lt-ltb a (suc b) h) refl
 
--- bits of a width that is not 0
-module _ (w bits : ℕ) (wide : 0 < w) (below : bits < 2 ^ (8 * w)) where
+-- a width that is not 0
+module _ (w : ℕ) (wide : 0 < w) where
   abbrev half : ℕ
   half = 2 ^ (8 * w - 1)
 
@@ -32,23 +32,24 @@ module _ (w bits : ℕ) (wide : 0 < w) (below : bits < 2 ^ (8 * w)) where
   pub half-of : 2 ^ (8 * w) / 2 ≡ half
   half-of = ap (λ (n : ℕ). n / 2) two-halves ∙ mul-div-cancel half (omega arith)
 
-  -- two's complement: the lower half of the values as they are, the upper half less all of them
-  pub lower : bits < half → fromBits (8 * w) bits ≡ pos bits
-  unfolding fromBits
-  lower h = rw (lt-ltb bits half h) refl
+  module _ (bits : ℕ) (below : bits < 2 ^ (8 * w)) where
+    -- two's complement: the lower half of the values as they are, the upper half less all of them
+    pub lower : bits < half → fromBits (8 * w) bits ≡ pos bits
+    unfolding fromBits
+    lower h = rw (lt-ltb bits half h) refl
 
-  pub upper : half ≤ bits → fromBits (8 * w) bits ≡ pos bits -ℤ pos (2 ^ (8 * w))
-  unfolding fromBits
-  upper h = rw (le-ltb bits half h) (sym (less bits (2 ^ (8 * w)) below))
+    pub upper : half ≤ bits → fromBits (8 * w) bits ≡ pos bits -ℤ pos (2 ^ (8 * w))
+    unfolding fromBits
+    upper h = rw (le-ltb bits half h) (sym (less bits (2 ^ (8 * w)) below))
 
-  -- a signed word lies from -2 ^ (8 w - 1) up to 2 ^ (8 w - 1) - 1
-  pub signed-range : mag (fromBits (8 * w) bits) < half
-  unfolding fromBits
-  signed-range = by (ltb bits half) refl
-    where
-      by : (q : Bool) → ltb bits half ≡ q → mag (cond (ltb bits half) (pos bits) (negsuc (2 ^ (8 * w) - suc bits))) < half
-      by true e = rw e (ltb-true bits half e)
-      by false e = rw e (omega (arith, two-halves, ltb-false bits half e))
+    -- a signed word lies from -2 ^ (8 w - 1) up to 2 ^ (8 w - 1) - 1
+    pub signed-range : mag (fromBits (8 * w) bits) < half
+    unfolding fromBits
+    signed-range = by (ltb bits half) refl
+      where
+        by : (q : Bool) → ltb bits half ≡ q → mag (cond (ltb bits half) (pos bits) (negsuc (2 ^ (8 * w) - suc bits))) < half
+        by true e = rw e (ltb-true bits half e)
+        by false e = rw e (omega (arith, two-halves, ltb-false bits half e))
 
 -- the least and the greatest number of a width
 unfoldable pub least : ℕ → Bool → ℤ
@@ -79,7 +80,7 @@ Bytes w bytes = (length bytes ≡ w) × T (areBytes bytes)
 -- every width, both signs, either order: it lies between the ends
 pub word-within : (w : ℕ) → 0 < w → (signed : Bool) (o : Order) (bytes : List ℕ) → Bytes w bytes → Within w signed (word w signed o bytes)
 unfolding wordOf
-word-within w wide true o bytes p = signed-within w _ (signed-range w (joined o bytes) wide (rw (p .0) at (joined-below o bytes (p .1))))
+word-within w wide true o bytes p = signed-within w _ (signed-range w wide (joined o bytes) (rw (p .0) at (joined-below o bytes (p .1))))
 word-within w wide false o bytes p = unsigned-within w (joined o bytes) (rw (p .0) at (joined-below o bytes (p .1)))
 
 -- one byte, two, four

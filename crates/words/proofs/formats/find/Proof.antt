@@ -10,8 +10,9 @@ use denote.Ref.{now}
 use Rattle.format.specs.Byte.{bytesOf}
 use Rattle.format.specs.Rows.{spanOf}
 use Rattle.format.specs.Word.{format, formats, joinAfter, joined}
+use Rattle.format.proofs.Lists.{length-span}
 use Rattle.words.specs.Known.{orderOf}
-use Rattle.words.proofs.Joins.{span-length, span-bytes}
+use Rattle.words.proofs.Joins.{span-bytes}
 use Rattle.words.proofs.Names as laws
 use Rattle.words.proofs.formats.find.Statement.{statement}
 use Rattle.words.proofs.formats.find.Tie as tie
@@ -27,7 +28,7 @@ name-bytes : (c : tie.After-shared-slice-known Inv-loop μ-loop) → let a = c .
 name-bytes c = let a = c .before .args in span-bytes (now (a .message)) (a .start .0) (a .n) (c .before .pre) (λ i. omega (arith, c .shared-slice-known .given i))
 
 name-length : (c : tie.After-shared-slice-known Inv-loop μ-loop) → let a = c .before .args in length (spanOf (now (a .message)) (a .start .0) (a .n)) ≡ a .n
-name-length c = let a = c .before .args in span-length (now (a .message)) (a .start .0) (a .n) (c .before .pre)
+name-length c = let a = c .before .args in length-span (now (a .message)) (a .start .0) (a .n) (c .before .pre)
 
 returns : tie.Need-returns Inv-loop μ-loop
 returns c = sym (laws.long-unknown _ (omega (arith, name-length (c .before), c .if1 .taken)))
