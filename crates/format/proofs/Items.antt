@@ -35,7 +35,7 @@ ItemOk r L.endItem = Unit {0}
 ItemOk r (L.storeItem x) = 1 ≤ length r
 ItemOk r (L.pushItem x) = Unit {0}
 ItemOk r L.cut = Unit {0}
-ItemOk r (L.stray k) = Unit {0}
+ItemOk r (L.stray k) = k ≤ length r
 ItemOk r L.tooLarge = Unit {0}
 
 -- a scan that has passed j bytes closes after k: `far` bytes on, all well spelled
@@ -47,14 +47,14 @@ record Closes (quote : ℕ) (escaped : Bool) (j : ℕ) (r : List ℕ) (k : ℕ) 
 
 abbrev ScanOk : ℕ → Bool → ℕ → List ℕ → Scan → Type 0
 ScanOk quote escaped j r Scan.ended = Unit {0}
-ScanOk quote escaped j r (L.strayAt k) = Unit {0}
+ScanOk quote escaped j r (L.strayAt k) = k < j + length r
 ScanOk quote escaped j r (L.closedAt k) = Closes quote escaped j r k
 
 -- one byte more in front
 scan-more : (quote : ℕ) (before after : Bool) (j c : ℕ) (r : List ℕ) → ((b : List ℕ) → T (spelled quote after b) → T (spelled quote before (c ∷ b)))
     → (s : Scan) → ScanOk quote after (suc j) r s → ScanOk quote before j (c ∷ r) s
 scan-more quote before after j c r f Scan.ended h = tt
-scan-more quote before after j c r f (L.strayAt k) h = tt
+scan-more quote before after j c r f (L.strayAt k) h = omega arith
 scan-more quote before after j c r f (L.closedAt k) h = record {
   far = suc (h .far);
   adds = omega (arith, h .adds);
@@ -69,7 +69,7 @@ scan-ok quote true j (c ∷ r) = cases (eqb c (code "\\") || eqb c quote) refl (
   where
     cases : (b : Bool) → (eqb c (code "\\") || eqb c quote) ≡ b → ScanOk quote false (suc j) r (scan quote false (suc j) r) → ScanOk quote true j (c ∷ r) (scan quote true j (c ∷ r))
     cases true e h = rw (e, scan) (scan-more quote true false j c r (λ b t. rw e t) (scan quote false (suc j) r) h)
-    cases false e h = rw (e, scan) tt
+    cases false e h = rw (e, scan) (omega arith)
 scan-ok quote false j (c ∷ r) = cases (eqb c quote) refl (scan-ok quote (eqb c (code "\\")) (suc j) r)
   where
     cases : (b : Bool) → eqb c quote ≡ b → ScanOk quote (eqb c (code "\\")) (suc j) r (scan quote (eqb c (code "\\")) (suc j) r) → ScanOk quote false j (c ∷ r) (scan quote false j (c ∷ r))
@@ -108,7 +108,7 @@ quoted-ok quote item r h = closes (scan quote false 0 r) (scan-ok quote false 0 
   where
     closes : (s : Scan) → ScanOk quote false 0 r s → ItemOk r (quotedItem item s)
     closes Scan.ended g = tt
-    closes (L.strayAt k) g = tt
+    closes (L.strayAt k) g = omega arith
     closes (L.closedAt k) g =
         let e : k ≡ g .far = omega (arith, g .adds) in
         rw e (h (g .far) (record { spells = g .spells; inside = g .inside }))
@@ -118,12 +118,12 @@ unfolding negative
 negative-ok [] = tt
 negative-ok (c ∷ r) =
     let d = digits (c - code "0") 1 r in
-    cond-ok (c ∷ r) (hasClass B.digit c) _ (L.stray 1) (λ t. integer-ok _ (c ∷ r) d (digits-more 0 c r d (digits-ok (c - code "0") 1 r))) tt
+    cond-ok (c ∷ r) (hasClass B.digit c) _ (L.stray 1) (λ t. integer-ok _ (c ∷ r) d (digits-more 0 c r d (digits-ok (c - code "0") 1 r))) (omega arith)
 
 store-ok : (r : List ℕ) → ItemOk r (store r)
 unfolding store
 store-ok [] = tt
-store-ok (c ∷ r) = cond-ok (c ∷ r) (hasClass B.register c) (L.storeItem c) (L.stray 1) (λ t. omega arith) tt
+store-ok (c ∷ r) = cond-ok (c ∷ r) (hasClass B.register c) (L.storeItem c) (L.stray 1) (λ t. omega arith) (omega arith)
 
 item-ok : (k : Class) (c : ℕ) (r : List ℕ) → ItemOk r (itemOf k c r)
 unfolding itemOf
@@ -141,7 +141,7 @@ item-ok B.hash c r = tt
 item-ok B.ampersand c r = tt
 item-ok B.dollar c r = tt
 item-ok B.greater c r = store-ok r
-item-ok B.comma c r = tt
+item-ok B.comma c r = omega arith
 item-ok B.register c r = tt
 
 pub lex-ok : (c : ℕ) (r : List ℕ) → ItemOk r (lex c r)

@@ -18,8 +18,9 @@ pub mod Simulation
 pub mod SoundRows
 pub mod SoundTerms
 pub mod TableRows
--- limits and counts
+-- limits, places and counts
 pub mod Limits
+pub mod Places
 pub mod RowCount
 -- what an accepted decoding leaves
 pub mod Decoded

@@ -38,7 +38,7 @@ module _ (𝒱 : Values) (at : ℕ) (r : List ℕ) (m : Machine 𝒱) where
     tags : (k : ℕ) (v : 𝒱 .Value) {st : List (𝒱 .Value)} → Popped (m .stack) v st → Quoted (code "`") r k → Making (M.tag (suc at) (take k r) v) st
 
   pub data Move : Step 𝒱 → Type 0 where
-    stops : (n p : ℕ) → MachineNumber n → Move (refuse n p)
+    stops : (n p : ℕ) → MachineNumber n → p ≤ suc at + length r → Move (refuse n p)
     rests : (k : ℕ) → k ≤ length r → Move (go k 0 m)
     makes : (k : ℕ) → k ≤ length r → {shape : Shape (𝒱 .Value)} {st : List (𝒱 .Value)} → Making shape st → Move (go k 1 (M.fresh 𝒱 at shape st (m .marks) m))
     opens : Move (go 0 0 (record { stack = m .stack; marks = length (m .stack) ∷ m .marks; registers = m .registers; memory = m .memory }))
@@ -49,14 +49,14 @@ module _ (𝒱 : Values) (at : ℕ) (r : List ℕ) (m : Machine 𝒱) where
     pushes : (x : ℕ) (v : 𝒱 .Value) → m .registers x ≡ some v → Move (go 0 0 (record { stack = v ∷ m .stack; marks = m .marks; registers = m .registers; memory = m .memory }))
     ends : (v : 𝒱 .Value) → m .stack ≡ v ∷ [] → Move (finish v)
 
-  -- an item's bytes lie in the slice
+  -- an item's bytes lie in the slice, and the place of its refusal there or at the end
   abbrev pub Inside : Step 𝒱 → Type 0
-  Inside (refuse n p) = Unit {0}
+  Inside (refuse n p) = p ≤ suc at + length r
   Inside (go k w m′) = k ≤ length r
   Inside (finish v) = Unit {0}
 
   pub inside : (s : Step 𝒱) → Move s → Inside s
-  inside s (stops n p h) = tt
+  inside s (stops n p h g) = g
   inside s (rests k h) = h
   inside s (makes k h x) = h
   inside s opens = omega arith
@@ -66,55 +66,55 @@ module _ (𝒱 : Values) (at : ℕ) (r : List ℕ) (m : Machine 𝒱) where
   inside s (ends v e) = tt
 
   -- a test that refuses, or goes on where it fails
-  unless : (c : Bool) (n p : ℕ) (s : Step 𝒱) → MachineNumber n → (c ≡ false → Move s) → Move (cond c (refuse n p) s)
-  unless true n p s h f = stops n p h
-  unless false n p s h f = f refl
+  unless : (c : Bool) (n p : ℕ) (s : Step 𝒱) → MachineNumber n → p ≤ suc at + length r → (c ≡ false → Move s) → Move (cond c (refuse n p) s)
+  unless true n p s h g f = stops n p h g
+  unless false n p s h g f = f refl
 
   -- a test that goes on where it holds, or refuses
-  only-if : (c : Bool) (n p : ℕ) (s : Step 𝒱) → MachineNumber n → (c ≡ true → Move s) → Move (cond c s (refuse n p))
-  only-if true n p s h f = f refl
-  only-if false n p s h f = stops n p h
+  only-if : (c : Bool) (n p : ℕ) (s : Step 𝒱) → MachineNumber n → p ≤ suc at + length r → (c ≡ true → Move s) → Move (cond c s (refuse n p))
+  only-if true n p s h g f = f refl
+  only-if false n p s h g f = stops n p h g
 
   pop-move : (stack : List (𝒱 .Value)) (next : 𝒱 .Value → List (𝒱 .Value) → Step 𝒱)
       → ((v : 𝒱 .Value) (st : List (𝒱 .Value)) → Popped stack v st → Move (next v st)) → Move (M.pop 𝒱 at (m .marks) stack next)
   unfolding M.pop
-  pop-move [] next f = stops 6 at (omega arith)
+  pop-move [] next f = stops 6 at (omega arith) (omega arith)
   pop-move (v ∷ st) next f =
-      unless (ltb (length st) (base (m .marks))) 6 at (next v st) (omega arith) (λ e. f v st (record { splits = refl; above = ltb-false (length st) (base (m .marks)) e }))
+      unless (ltb (length st) (base (m .marks))) 6 at (next v st) (omega arith) (omega arith) (λ e. f v st (record { splits = refl; above = ltb-false (length st) (base (m .marks)) e }))
 
   binary-move : (v : 𝒱 .Value) (st : List (𝒱 .Value)) → Popped (m .stack) v st → (o : Option ℤ) → 𝒱 .integerIn (m .memory) v ≡ o → Move (M.takeBinary 𝒱 at r m st o)
   unfolding M.takeBinary
-  binary-move v st p none e = stops 7 at (omega arith)
-  binary-move v st p (some (negsuc n)) e = stops 8 at (omega arith)
+  binary-move v st p none e = stops 7 at (omega arith) (omega arith)
+  binary-move v st p (some (negsuc n)) e = stops 8 at (omega arith) (omega arith)
   binary-move v st p (some (pos n)) e =
-      unless (leb (length r) n) 3 (suc at + length r) _ (omega arith) (λ l.
-      only-if (eqb (getD r n 0) (code "~")) 4 (suc at + n) _ (omega arith) (λ t. makes (suc n) (leb-false (length r) n l) (binaries n v p e (leb-false (length r) n l))))
+      unless (leb (length r) n) 3 (suc at + length r) _ (omega arith) (omega arith) (λ l.
+      only-if (eqb (getD r n 0) (code "~")) 4 (suc at + n) _ (omega arith) (omega (arith, leb-false (length r) n l)) (λ t. makes (suc n) (leb-false (length r) n l) (binaries n v p e (leb-false (length r) n l))))
 
   cons-move : (v l : 𝒱 .Value) (mid st : List (𝒱 .Value)) → Popped (m .stack) v mid → Popped mid l st → Move (M.consList 𝒱 at m v l st)
   unfolding M.consList
-  cons-move v l mid st p q = only-if (𝒱 .isList (m .memory) l) 7 at _ (omega arith) (λ t. makes 0 (omega arith) (conses v l p q t))
+  cons-move v l mid st p q = only-if (𝒱 .isList (m .memory) l) 7 at _ (omega arith) (omega arith) (λ t. makes 0 (omega arith) (conses v l p q t))
 
   close-move : (ds : List ℕ) → m .marks ≡ ds → Move (M.closeTuple 𝒱 at m ds)
   unfolding M.closeTuple
-  close-move [] e = stops 10 at (omega arith)
+  close-move [] e = stops 10 at (omega arith) (omega arith)
   close-move (d ∷ ds) e =
-      unless (ltb (length (m .stack)) d) 17 at _ (omega arith) (λ l. tuples d (length (m .stack) - d) ds e (omega (arith, ltb-false (length (m .stack)) d l)))
+      unless (ltb (length (m .stack)) d) 17 at _ (omega arith) (omega arith) (λ l. tuples d (length (m .stack) - d) ds e (omega (arith, ltb-false (length (m .stack)) d l)))
 
   push-move : (x : ℕ) (o : Option (𝒱 .Value)) → m .registers x ≡ o → Move (M.pushRegister 𝒱 at m o)
   unfolding M.pushRegister
-  push-move x none e = stops 9 at (omega arith)
+  push-move x none e = stops 9 at (omega arith) (omega arith)
   push-move x (some v) e = pushes x v e
 
   only-move : (st : List (𝒱 .Value)) → m .stack ≡ st → Move (M.onlyValue 𝒱 at st)
   unfolding M.onlyValue
-  only-move [] e = stops 11 at (omega arith)
+  only-move [] e = stops 11 at (omega arith) (omega arith)
   only-move (v ∷ []) e = ends v e
-  only-move (v ∷ w ∷ st) e = stops 11 at (omega arith)
+  only-move (v ∷ w ∷ st) e = stops 11 at (omega arith) (omega arith)
 
   end-move : (ds : List ℕ) → Move (M.endMessage 𝒱 at m ds)
   unfolding M.endMessage
   end-move [] = only-move (m .stack) refl
-  end-move (d ∷ ds) = stops 10 at (omega arith)
+  end-move (d ∷ ds) = stops 10 at (omega arith) (omega arith)
 
   pub move : (i : Item) → ItemOk r i → Move (M.step 𝒱 at r m i)
   unfolding M.step
@@ -132,9 +132,9 @@ module _ (𝒱 : Values) (at : ℕ) (r : List ℕ) (m : Machine 𝒱) where
   move L.endItem h = end-move (m .marks)
   move (L.storeItem x) h = pop-move (m .stack) _ (λ v st p. stores x h v p)
   move (L.pushItem x) h = push-move x (m .registers x) refl
-  move L.cut h = stops 3 (suc at + length r) (omega arith)
-  move (L.stray k) h = stops 4 (at + k) (omega arith)
-  move L.tooLarge h = stops 5 at (omega arith)
+  move L.cut h = stops 3 (suc at + length r) (omega arith) (omega arith)
+  move (L.stray k) h = stops 4 (at + k) (omega arith) (omega arith)
+  move L.tooLarge h = stops 5 at (omega arith) (omega arith)
 
 -- An invariant of offset, bytes to come, rows used and machine that every byte passed and every move keeps tells what holds of the answer.
 module _ (𝒱 : Values) (lim : Limits) (Inv : ℕ → List ℕ → ℕ → Machine 𝒱 → Type 0) (End : ℕ → Result 𝒱 → Type 0) where

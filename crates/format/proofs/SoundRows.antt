@@ -193,7 +193,7 @@ module _ (message : List ℕ) where
 
     pub keeps : (lim : Limits) (s : Step rowValues) → Move rowValues at r m s → Mv.Next rowValues lim Kept Accepted at r used m s
     unfolding makeRows
-    keeps lim s (Mv.stops n p h) = h
+    keeps lim s (Mv.stops n p h g) = h
     keeps lim s (Mv.rests j i) = still refl (k .stack) (k .registers)
     keeps lim s (Mv.makes j i {shape} {st} x) = fresh-kept 1 shape st (m .marks) (made x .0) (made x .1)
     keeps lim s Mv.opens = still refl (k .stack) (k .registers)
