@@ -1,0 +1,61 @@
+//! The program of 01: reads a message on standard input, and writes its plain text or its refusal, and a newline, on standard output.
+use crate::input::Input;
+use crate::respond::Response;
+use format::Offset;
+use format::refusal;
+use libc::STDERR_FILENO;
+use libc::STDOUT_FILENO;
+
+mod input;
+mod respond;
+
+// What the program lends itself for the message and for its plain text.
+const MESSAGE_BYTES: usize = 16384;
+
+const OUTPUT_BYTES: usize = 16384;
+
+// A part of the line. Where it cannot be written, that is said on standard error.
+fn print(s: &[u8]) {
+    if !io::write_all(STDOUT_FILENO, s) {
+        io::write_all(STDERR_FILENO, b"ubfa: cannot write standard output\n");
+    }
+}
+
+fn print_refusal(number: u8, place: Offset) {
+    print(b"refused ");
+    io::print_decimal(STDOUT_FILENO, number as u64);
+    print(b" at ");
+    io::print_decimal(STDOUT_FILENO, place.0 as u64);
+    print(b"\n");
+}
+
+// The plain text of a message, or its refusal.
+fn answer(message: &[u8]) {
+    let mut output = [0u8; OUTPUT_BYTES];
+    let response = respond::respond(message, &mut output);
+    match response {
+        Response::Text(n) => {
+            print(&output[..n]);
+            print(b"\n");
+        }
+        Response::Refused(number, place) => {
+            print_refusal(number, place);
+        }
+    }
+}
+
+fn main() {
+    let mut message = [0u8; MESSAGE_BYTES];
+    let got = input::read_message(&mut message);
+    match got {
+        Input::Bytes(n) => {
+            answer(&message[..n]);
+        }
+        Input::TooLong => {
+            print_refusal(refusal::OVER_BOUND, Offset(0));
+        }
+        Input::Failed => {
+            io::write_all(STDERR_FILENO, b"ubfa: cannot read standard input\n");
+        }
+    }
+}
