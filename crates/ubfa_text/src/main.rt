@@ -14,33 +14,41 @@ const MESSAGE_BYTES: usize = 16384;
 
 const OUTPUT_BYTES: usize = 16384;
 
-// A part of the line. Where it cannot be written, that is said on standard error.
-fn print(s: &[u8]) {
-    if !io::write_all(STDOUT_FILENO, s) {
-        io::write_all(STDERR_FILENO, b"ubfa: cannot write standard output\n");
-    }
+// A part of the line; false where it cannot be written.
+fn print(s: &[u8]) -> bool {
+    io::write_all(STDOUT_FILENO, s)
 }
 
-fn print_refusal(number: u8, place: Offset) {
-    print(b"refused ");
-    io::print_decimal(STDOUT_FILENO, number as u64);
-    print(b" at ");
-    io::print_decimal(STDOUT_FILENO, place.0 as u64);
-    print(b"\n");
+fn print_number(n: u64) -> bool {
+    io::print_decimal(STDOUT_FILENO, n)
+}
+
+fn print_refusal(number: u8, place: Offset) -> bool {
+    print(b"refused ")
+        && print_number(number as u64)
+        && print(b" at ")
+        && print_number(place.0 as u64)
+        && print(b"\n")
 }
 
 // The plain text of a message, or its refusal.
-fn answer(message: &[u8]) {
+fn print_answer(message: &[u8]) -> bool {
     let mut output = [0u8; OUTPUT_BYTES];
     let response = respond::respond(message, &mut output);
     match response {
-        Response::Text(n) => {
-            print(&output[..n]);
-            print(b"\n");
-        }
-        Response::Refused(number, place) => {
-            print_refusal(number, place);
-        }
+        Response::Text(n) => print(&output[..n]) && print(b"\n"),
+        Response::Refused(number, place) => print_refusal(number, place),
+    }
+}
+
+fn complain(s: &[u8]) {
+    io::write_all(STDERR_FILENO, s);
+}
+
+// The line is written whole, or it is said on standard error that it was not.
+fn finish(is_written: bool) {
+    if !is_written {
+        complain(b"ubfa: cannot write standard output\n");
     }
 }
 
@@ -49,13 +57,13 @@ fn main() {
     let got = input::read_message(&mut message);
     match got {
         Input::Bytes(n) => {
-            answer(&message[..n]);
+            finish(print_answer(&message[..n]));
         }
         Input::TooLong => {
-            print_refusal(refusal::OVER_BOUND, Offset(0));
+            finish(print_refusal(refusal::OVER_BOUND, Offset(0)));
         }
         Input::Failed => {
-            io::write_all(STDERR_FILENO, b"ubfa: cannot read standard input\n");
+            complain(b"ubfa: cannot read standard input\n");
         }
     }
 }

@@ -1,13 +1,10 @@
 -- `ubfa_text::main` meets its contract: the bytes read lie in the buffer.
 use Prim.Native.Nat.{_≤_}
 use lib.ListN.{length}
-use borrow.Author.Needs.{needs}
 use Rattle.ubfa_text.proofs.Heads.{bytes-fit, head-length}
+use borrow.Author.Needs.{needs}
 use Rattle.ubfa_text.proofs.main.Statement.{statement}
 use Rattle.ubfa_text.proofs.main.Tie as tie
-
-fits : (c : tie.After-got) → c .got .given .0 .0 ≤ length (c .before .before .before .read-message .last .0)
-fits c = let at = c .before .before .before in bytes-fit (at .read-message .result) (at .read-message .last .0) (at .read-message .ensures) _ (c .got .given .1)
 
 slice-aggregate-read-message : tie.Need-slice-aggregate-read-message
 slice-aggregate-read-message c = search needs
@@ -18,14 +15,20 @@ read-message-requires c κs = search needs
 enum-known-got : tie.Need-enum-known-got
 enum-known-got c = search needs
 
+fits : (c : tie.After-got) → c .got .given .0 .0 ≤ length (c .before .before .before .read-message .last .0)
+fits c = let at = c .before .before .before in bytes-fit (at .read-message .result) (at .read-message .last .0) (at .read-message .ensures) _ (c .got .given .1)
+
 array-share-prefix-message : tie.Need-array-share-prefix-message
 array-share-prefix-message c = fits (c .before)
 
-slice-aggregate-answer : tie.Need-slice-aggregate-answer
-slice-aggregate-answer c = head-length _ _ (fits (c .before .before))
+slice-aggregate-print-answer : tie.Need-slice-aggregate-print-answer
+slice-aggregate-print-answer c = head-length _ _ (fits (c .before .before))
 
-answer-requires : tie.Need-answer-requires
-answer-requires c κs = search needs
+print-answer-requires : tie.Need-print-answer-requires
+print-answer-requires c κs = search needs
+
+finish-requires : tie.Need-finish-requires
+finish-requires c κs = search needs
 
 enum-told : tie.Need-enum-told
 enum-told c = search needs
@@ -33,14 +36,17 @@ enum-told c = search needs
 print-refusal-requires : tie.Need-print-refusal-requires
 print-refusal-requires c κs = search needs
 
+finish-requires-2 : tie.Need-finish-requires-2
+finish-requires-2 c κs = search needs
+
 enum-told-2 : tie.Need-enum-told-2
 enum-told-2 c = search needs
 
-slice-aggregate-write-all : tie.Need-slice-aggregate-write-all
-slice-aggregate-write-all c = search needs
+slice-aggregate-complain : tie.Need-slice-aggregate-complain
+slice-aggregate-complain c = search needs
 
-write-all-requires : tie.Need-write-all-requires
-write-all-requires c κs = search needs
+complain-requires : tie.Need-complain-requires
+complain-requires c κs = search needs
 
 returns : tie.Need-returns
 returns c = search needs
@@ -59,13 +65,15 @@ main-spec =
     read-message-requires
     enum-known-got
     array-share-prefix-message
-    slice-aggregate-answer
-    answer-requires
+    slice-aggregate-print-answer
+    print-answer-requires
+    finish-requires
     enum-told
     print-refusal-requires
+    finish-requires-2
     enum-told-2
-    slice-aggregate-write-all
-    write-all-requires
+    slice-aggregate-complain
+    complain-requires
     returns
     returns-2
     returns-3)

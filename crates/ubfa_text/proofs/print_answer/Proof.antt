@@ -1,10 +1,10 @@
--- `ubfa_text::answer` meets its contract: the text lies in the output.
+-- `ubfa_text::print_answer` meets its contract: the text lies in the output.
 use Prim.Native.Nat.{_≤_}
 use lib.ListN.{length}
 use Rattle.ubfa_text.proofs.Heads.{text-fits, head-length}
 use borrow.Author.Needs.{needs}
-use Rattle.ubfa_text.proofs.answer.Statement.{statement}
-use Rattle.ubfa_text.proofs.answer.Tie as tie
+use Rattle.ubfa_text.proofs.print_answer.Statement.{statement}
+use Rattle.ubfa_text.proofs.print_answer.Tie as tie
 
 slice-aggregate-respond : tie.Need-slice-aggregate-respond
 slice-aggregate-respond c = search needs
@@ -45,8 +45,11 @@ returns c = search needs
 returns-2 : tie.Need-returns-2
 returns-2 c = search needs
 
-pub answer-spec : {M : Type 1} → statement M
-answer-spec =
+returns-3 : tie.Need-returns-3
+returns-3 c = search needs
+
+pub print-answer-spec : {M : Type 1} → statement M
+print-answer-spec =
     tie.close
     (tie.spec
     slice-aggregate-respond
@@ -60,4 +63,5 @@ answer-spec =
     enum-known-response-2
     print-refusal-requires
     returns
-    returns-2)
+    returns-2
+    returns-3)
