@@ -35,10 +35,12 @@ static void print_text(const struct decoded *d)
         return;
     }
     ubfa_written w = ubfa_write(d->message, d->bytes, d->rows, ROWS * UBFA_ROW_WORDS, d->answer.rows, d->answer.root, scratch, 2 * ROWS, text, TEXT);
-    if (w.number != 0)
-        printf("accepted; text refused %" PRIu32 "\n", w.number);
-    else
-        printf("accepted: %.*s\n", (int)w.bytes, (const char *)text);
+    if (w.number != 0) {
+        printf("text refused %" PRIu32 "\n", w.number);
+        return;
+    }
+    fwrite(text, 1, w.bytes, stdout);
+    putchar('\n');
 }
 
 static void print_compared(const struct decoded *a, const struct decoded *b)
@@ -79,12 +81,13 @@ int main(int argc, char **argv)
         check(argv[1], strlen(argv[1]), argv[2], strlen(argv[2]));
         return 0;
     }
-    /* A heater's sensor block, 258 in big-endian order, spelled outright and through a register. */
-    static const char outright[] = "2 ~\x01\x02~`u16be`$", by_register[] = "2 >n n ~\x01\x02~ >b b `u16be`$";
-    static const char other_order[] = "2 ~\x01\x02~`u16le`$", unbalanced[] = "1{>a}$";
-    check(outright, sizeof outright - 1, by_register, sizeof by_register - 1);
-    check(other_order, sizeof other_order - 1, outright, sizeof outright - 1);
-    check("#2 &1 &$", 8, "1 >a #2 &a&$", 12);
-    check(unbalanced, sizeof unbalanced - 1, "", 0);
+    /* A sensor block outright and through registers, and the same bytes in the other order. */
+    static const char outright[] = "2 ~\x01\x02~`u16be`$", through[] = "2 >n n~\x01\x02~>b b`u16be`$", little[] = "2 ~\x01\x02~`u16le`$";
+    check(outright, sizeof outright - 1, through, sizeof through - 1);
+    check(little, sizeof little - 1, outright, sizeof outright - 1);
+    /* A list and a message that is refused; the empty slice still has a pointer. */
+    static const char list[] = "#2 &1 &$", popped[] = "1{>a}$";
+    check(list, sizeof list - 1, popped, sizeof popped - 1);
+    check(popped, sizeof popped - 1, "", 0);
     return 0;
 }
