@@ -1,0 +1,76 @@
+//! What a run has met, counted.
+
+use std::collections::BTreeMap;
+use std::fmt::{self, Display, Formatter};
+
+/// Refusals 1 to 20, in the words of the C header.
+const MEANINGS: [&str; 20] = [
+    "the message is over its bound",
+    "a lent table is too short to begin with",
+    "the message ends inside an item or before `$`",
+    "a byte that is not allowed there",
+    "an integer out of the range of 64 bits",
+    "a pop, or a tag, with too few values above the noted depth",
+    "`~` without an integer, `&` without a list",
+    "a negative count",
+    "an empty register pushed",
+    "`}` with no depth noted, `$` with one noted",
+    "`$` with a stack depth other than 1",
+    "no room in the rows",
+    "no room on the stack",
+    "no room for noted depths",
+    "the plain text is longer than the output",
+    "unsound rows",
+    "`}` with a stack depth under the noted one",
+    "not a sensor block",
+    "a block's length is no multiple of its words' width",
+    "no such word",
+];
+
+#[derive(Default)]
+pub struct Counts {
+    pub accepted: u64,
+    pub refused: BTreeMap<u32, u64>,
+    /// Bytes of the messages; of a refused one on a tape, those before the refusal's place.
+    pub bytes: u64,
+    /// Bytes of tapes after a message that could not be cut.
+    pub not_looked_at: u64,
+    /// Accepted messages with texts too long to be compared.
+    pub long_texts: u64,
+    pub differences: u64,
+}
+
+impl Counts {
+    pub fn messages(&self) -> u64 {
+        self.accepted + self.all_refused()
+    }
+
+    pub fn all_refused(&self) -> u64 {
+        self.refused.values().sum()
+    }
+}
+
+impl Display for Counts {
+    fn fmt(&self, out: &mut Formatter) -> fmt::Result {
+        writeln!(out, "messages       {:>12}", self.messages())?;
+        writeln!(out, "accepted       {:>12}", self.accepted)?;
+        writeln!(out, "refused        {:>12}", self.all_refused())?;
+        writeln!(out, "bytes          {:>12}", self.bytes)?;
+        writeln!(out, "not looked at  {:>12}", self.not_looked_at)?;
+        writeln!(out, "long texts     {:>12}", self.long_texts)?;
+        writeln!(out, "differences    {:>12}", self.differences)?;
+        if !self.refused.is_empty() {
+            writeln!(out, "\nrefusal      times  meaning")?;
+        }
+        for (&number, times) in &self.refused {
+            let meaning = meaning(number);
+            writeln!(out, "{number:>7}  {times:>9}  {meaning}")?;
+        }
+        Ok(())
+    }
+}
+
+fn meaning(number: u32) -> &'static str {
+    let index = (number as usize).wrapping_sub(1);
+    MEANINGS.get(index).unwrap_or(&"no number of 01")
+}
