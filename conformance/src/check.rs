@@ -26,6 +26,9 @@ pub const PROGRAM: Lent = Lent {
     registers: REGISTER_WORDS,
 };
 
+/// The bytes of a message, and of a text, for which the program has room.
+pub const PROGRAM_BYTES: usize = 16_384;
+
 /// What the library answered, and where that or a lent buffer is not as the independent implementation has it.
 pub struct Checked<T> {
     pub answer: T,

@@ -30,6 +30,12 @@ fn register(noise: &mut Noise) -> u8 {
     }
 }
 
+/// A message of so many bytes: a head, one byte as often as it takes, and a tail.
+pub fn filled(bytes: usize, head: &[u8], byte: u8, tail: &[u8]) -> Vec<u8> {
+    let middle = vec![byte; bytes - head.len() - tail.len()];
+    [head, &middle, tail].concat()
+}
+
 /// A message of any of the sorts, sound or not.
 pub fn any(noise: &mut Noise) -> Vec<u8> {
     let mut message = match noise.below(12) {

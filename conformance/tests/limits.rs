@@ -2,7 +2,7 @@
 
 use conformance::check::{shown, Checker, PROGRAM};
 use conformance::header::{MARKS, MESSAGE_BYTES, REGISTER_WORDS, ROWS, ROW_WORDS, STACK_WORDS};
-use conformance::messages::{spell, Value};
+use conformance::messages::{filled, spell, Value};
 use conformance::model::decode::{decode, Lent};
 use conformance::model::forest::Forest;
 use conformance::noise::Noise;
@@ -183,10 +183,7 @@ fn longer_tables_are_not_used_past_their_bounds() {
 
 /// Messages of a given length, and the decoder's number and place where it is the greatest allowed.
 fn of_length(bytes: usize) -> [(Vec<u8>, u32, usize); 5] {
-    let filled = |head: &[u8], byte: u8, tail: &[u8]| {
-        let middle = vec![byte; bytes - head.len() - tail.len()];
-        [head, &middle, tail].concat()
-    };
+    let filled = |head: &[u8], byte: u8, tail: &[u8]| filled(bytes, head, byte, tail);
     [
         (filled(b"'", b'a', b"'$"), 0, bytes),
         (filled(b"1$", b',', b""), 0, 2),

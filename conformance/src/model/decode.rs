@@ -392,7 +392,11 @@ mod tests {
             let forest = &mut Forest::new();
             let decoded = decode(forest, message.as_bytes(), AMPLE);
             let got = [decoded.number, decoded.place, decoded.root, decoded.used];
-            assert_eq!(got, [0, consumed, root, rows.len() as u32 / 4], "{message}");
+            assert_eq!(
+                got,
+                [0, consumed, root, (rows.len() / ROW_WORDS) as u32],
+                "{message}"
+            );
             assert_eq!(decoded.rows, rows, "{message}");
             let plain = plain(forest, decoded.term.unwrap(), 99).unwrap();
             assert_eq!(String::from_utf8(plain).unwrap(), text);

@@ -115,15 +115,15 @@ mod tests {
     use super::super::text::plain;
     use super::*;
 
-    const NIL: [u32; 4] = [5, 0, 0, 0];
-    const END: [u32; 4] = [7, 0, 0, 0];
+    const NIL: [u32; ROW_WORDS] = [5, 0, 0, 0];
+    const END: [u32; ROW_WORDS] = [7, 0, 0, 0];
     const MOST: u32 = u32::MAX;
 
     /// Bytes 0 to 6: quote, a, backslash, quote, backquote, double quote, backslash.
     const MESSAGE: &[u8] = b"'a\\'`\"\\";
 
     /// Rows that are sound, and rows that are not, as row 2 after an empty list and an empty tuple.
-    const SOUND: [[u32; 4]; 14] = [
+    const SOUND: [[u32; ROW_WORDS]; 14] = [
         [1, MOST, MOST, 0],
         [2, 1, 3, 0],
         [2, 7, 0, 0],
@@ -139,7 +139,7 @@ mod tests {
         [9, 1, 1, 1],
         [9, 0, 2, 0],
     ];
-    const UNSOUND: [[u32; 4]; 39] = [
+    const UNSOUND: [[u32; ROW_WORDS]; 39] = [
         // Unknown kind.
         [0, 0, 0, 0],
         [10, 0, 0, 0],
@@ -223,9 +223,9 @@ mod tests {
                 root: 0,
             })
         };
-        assert!(judged(65_536 * 4, 65_536));
-        assert!(!judged(65_537 * 4, 65_537));
-        assert!(!judged(65_536 * 4, 65_537));
+        assert!(judged(65_536 * ROW_WORDS, 65_536));
+        assert!(!judged(65_537 * ROW_WORDS, 65_537));
+        assert!(!judged(65_536 * ROW_WORDS, 65_537));
         assert!(judged(7, 1));
         assert!(!judged(7, 2));
         assert!(!judged(8, 0));

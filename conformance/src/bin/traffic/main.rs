@@ -14,8 +14,9 @@ use std::process::ExitCode;
 const HELP: &str = "\
 usage: conformance/traffic [--tape] [--expect FILE] PATH..
 
-Decodes messages with the library and with the independent implementation, in the largest tables, and compares
-the answers, every table's end contents, and the plain text that the library writes.
+Decodes messages with the library and with the independent implementation, in tables large enough to refuse only
+what the largest would, and compares the answers, every table's end contents, and the plain text that the library
+writes.
 
 PATH..         files of one message each, or folders of them, looked through to the bottom in the order of names
 --tape         the files hold messages end to end: each begins where the bytes consumed by the one before end

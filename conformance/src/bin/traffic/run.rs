@@ -3,10 +3,11 @@
 use crate::counts::Counts;
 use crate::expected::Expected;
 use crate::paths;
-use conformance::check::{Checked, Checker, Decoding, LARGEST, PROGRAM};
-use conformance::header::{MESSAGE_BYTES, ROWS, ROW_WORDS};
+use conformance::check::{Checked, Checker, Decoding, PROGRAM, PROGRAM_BYTES};
+use conformance::header::{MARKS, MESSAGE_BYTES, REGISTER_WORDS, ROWS, ROW_WORDS, STACK_WORDS};
 use conformance::library::{Decoded, Written};
-use conformance::model::decode::Lent;
+use conformance::model::decode::{decode, Lent};
+use conformance::model::forest::Forest;
 use conformance::model::rows::Table;
 use conformance::model::text;
 use std::path::{Path, PathBuf};
@@ -14,8 +15,9 @@ use std::time::{Duration, Instant};
 
 /// Texts up to this are compared.
 const TEXT_BYTES: usize = 4 << 20;
-/// The bytes of a message, and of a text, for which the program ./ubfa has room.
-const PROGRAM_BYTES: usize = 16_384;
+/// The first bytes of a tape that are tried for a message, and how many times more are tried next.
+const HEAD_BYTES: usize = 1024;
+const HEAD_GROWS: usize = 8;
 /// How often a long run says how far it is.
 const PROGRESS: Duration = Duration::from_secs(3);
 
@@ -34,7 +36,6 @@ enum Outcome {
 
 pub struct Run {
     expected: Option<Expected>,
-    lent: Lent,
     /// The most bytes of a tape handed to the decoders at once.
     slice_bytes: usize,
     text_bytes: usize,
@@ -60,13 +61,12 @@ impl Run {
 
     /// With another decoder's answers the room is the program's, else all that 01 allows.
     fn new(answers: Option<Vec<u8>>) -> Run {
-        let (lent, slice_bytes, text_bytes) = match answers {
-            Some(_) => (PROGRAM, PROGRAM_BYTES, PROGRAM_BYTES),
-            None => (LARGEST, MESSAGE_BYTES, TEXT_BYTES),
+        let (slice_bytes, text_bytes) = match answers {
+            Some(_) => (PROGRAM_BYTES, PROGRAM_BYTES),
+            None => (MESSAGE_BYTES, TEXT_BYTES),
         };
         Run {
             expected: answers.map(Expected::new),
-            lent,
             slice_bytes,
             text_bytes,
             counts: Counts::default(),
@@ -96,8 +96,7 @@ impl Run {
     fn tape(&mut self, file: &Path, bytes: &[u8]) {
         let mut offset = 0;
         while !bytes[offset..].iter().all(|byte| b" \t\n\r".contains(byte)) {
-            let left = &bytes[offset..];
-            let slice = &left[..left.len().min(self.slice_bytes)];
+            let slice = self.head(&bytes[offset..]);
             let (looked_at, cut) = self.message(file, offset, slice);
             self.counts.bytes += looked_at as u64;
             if !cut {
@@ -105,6 +104,35 @@ impl Run {
                 return;
             }
             offset += looked_at;
+        }
+    }
+
+    /// As much of a tape as decides on its first message. No answer but 3 changes with the bytes that follow, so more is tried
+    /// only where that is the answer; to lend the whole rest for each message would take long.
+    fn head<'a>(&self, left: &'a [u8]) -> &'a [u8] {
+        let most = left.len().min(self.slice_bytes);
+        let mut bytes = most.min(HEAD_BYTES);
+        while bytes < most && self.is_cut(&left[..bytes]) {
+            bytes = most.min(bytes * HEAD_GROWS);
+        }
+        &left[..bytes]
+    }
+
+    fn is_cut(&self, slice: &[u8]) -> bool {
+        decode(&mut Forest::new(), slice, self.lent(slice.len())).number == 3
+    }
+
+    /// The tables for a message of so many bytes: the program's, or as much of the largest as so many bytes can use, which are two
+    /// rows, a value and a noted depth for each.
+    fn lent(&self, bytes: usize) -> Lent {
+        match self.expected {
+            Some(_) => PROGRAM,
+            None => Lent {
+                rows: ROWS.min(2 * bytes) * ROW_WORDS,
+                stack: STACK_WORDS.min(bytes),
+                marks: MARKS.min(bytes),
+                registers: REGISTER_WORDS,
+            },
         }
     }
 
@@ -123,7 +151,7 @@ impl Run {
         let Checked {
             answer: decoding,
             difference,
-        } = checker.decode(slice, self.lent);
+        } = checker.decode(slice, self.lent(slice.len()));
         let cut = difference.is_none() && decoding.accepted();
         self.report(file, offset, difference);
         let outcome = if self.expected.is_some() && slice.len() > PROGRAM_BYTES {
