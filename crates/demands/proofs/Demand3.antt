@@ -33,11 +33,11 @@ use Rattle.demands.specs.declared.MessagesCompared.the-variants.{FirstRe
 use Rattle.demands.proofs.Demand2.{some-row, number, demand2}
 
 -- the term that the root row stands for, in a table that `decode` left
-abbrev rootTerm : List ℕ → Tables → Row → ℕ → Term
+abbrev pub rootTerm : List ℕ → Tables → Row → ℕ → Term
 rootTerm message u root used = termAt message (rowsOf used (u .rows)) (root .0)
 
 -- the answer of `compare` on two accepted messages' tables: 2 where the scratch is too short, otherwise whether the texts are the same
-abbrev told : Bool → Bool → List ℕ → A.Compared
+abbrev pub told : Bool → Bool → List ℕ → A.Compared
 told short same scratch = cond short (compareRefusal 2 scratch) (record { number = 0; equal = cond same 1 0; scratch = zeroed scratch })
 
 -- a refusal in place of an answer would have its number, 0
@@ -79,7 +79,7 @@ left-scratch C.Different scratch′ = refl
 left-scratch (C.Refused n) scratch′ = refl
 
 -- `compare`, on the tables that `decode` left of two accepted messages, refuses only a scratch shorter than the rows used of both
-accepted-answer : (messageA : List ℕ) (tA uA : Tables) (consumedA : ℕ) (rootA : Row) (usedA : ℕ) → decodedAs (Accepted consumedA rootA usedA) uA ≡ decodeAnswer messageA tA
+pub accepted-answer : (messageA : List ℕ) (tA uA : Tables) (consumedA : ℕ) (rootA : Row) (usedA : ℕ) → decodedAs (Accepted consumedA rootA usedA) uA ≡ decodeAnswer messageA tA
     → (messageB : List ℕ) (tB uB : Tables) (consumedB : ℕ) (rootB : Row) (usedB : ℕ) → decodedAs (Accepted consumedB rootB usedB) uB ≡ decodeAnswer messageB tB
     → (scratch : List ℕ) → compareAnswer messageA (uA .rows) usedA (rootA .0) messageB (uB .rows) usedB (rootB .0) scratch
     ≡ told (ltb (length scratch) (usedA + usedB)) (sameBytes (plain (rootTerm messageA uA rootA usedA)) (plain (rootTerm messageB uB rootB usedB))) scratch

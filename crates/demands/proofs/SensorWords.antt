@@ -2,6 +2,7 @@
 use Prim.Native.Nat.{ℕ, _/_, _%_, _<_}
 use mathlib.Core.Path.{_≡_, refl, ap, sym, _∙_}
 use mathlib.Core.Bool.{Bool, true, false}
+use mathlib.Core.Option.{some}
 use mathlib.Core.List.{List, []}
 use native.Mathlib.Nat.{zero-add}
 use native.Mathlib.Omega.{arith}
@@ -13,7 +14,7 @@ use Rattle.format.specs.Rows.{rowsOf, rowRoom, noTerm, termsAfter, termAt}
 use Rattle.format.specs.Sound.{countFits, rootAmong, soundRows, soundTable}
 use Rattle.format.specs.Term.{Term, binary, tag}
 use Rattle.format.specs.Word as F
-use Rattle.format.specs.Word.{Format, noWord, wordIn, wordUnder, wordNamed, wordOfTerm}
+use Rattle.format.specs.Word.{Format, formats, formatIn, noWord, wordIn, wordUnder, wordNamed, wordOfTerm}
 use Rattle.format.specs.Answer as A
 use Rattle.format.specs.Answer.{Tables, decodeAnswer, wordAnswer}
 use Rattle.format.specs.declared.Offset.{Offset}
@@ -86,11 +87,17 @@ row-word message t u consumed root used promise row l k =
     let short = accepts message t (number message t u consumed root used promise) .inBound in
     rw (short, sound-at message (u .rows) used (root .0) row (demand2 message t _ u promise .sound consumed root used refl) l) refl
 
-pub accepted-words : AcceptedWords
+-- and where a tag of a known name over a binary stands there, by that binary's bytes
+pub block-word : (message : List ℕ) (t u : Tables) (consumed : ℕ) (root : Row) (used : ℕ) → decodedAs (Accepted consumed root used) u ≡ decodeAnswer message t
+    → (row : ℕ) (name bytes : List ℕ) → termAt message (rowsOf used (u .rows)) row ≡ tag name (binary bytes) → (f : Format) → formatIn formats name ≡ some f
+    → (k : ℕ) → wordAnswer message (u .rows) used row k ≡ wordIn f bytes k
 unfolding wordOfTerm wordNamed wordUnder
+block-word message t u consumed root used promise row name bytes at f known k =
+    row-word message t u consumed root used promise row (tag-among message (u .rows) used row name (binary bytes) at) k ∙ rw (at, known) refl
+
+pub accepted-words : AcceptedWords
 accepted-words message t u consumed root used promise row name bytes at f known k w answer numbered =
-    let told = row-word message t u consumed root used promise (row .0) (tag-among message (u .rows) used (row .0) name (binary bytes) at) k in
-    reads f bytes k w (answer ∙ told ∙ rw (at, known) refl) numbered
+    reads f bytes k w (answer ∙ block-word message t u consumed root used promise (row .0) name bytes at f known k) numbered
 
 -- a word of a message's own term: what is answered, and the tables left
 found-read : (w : Word) → (w ≡ Refused 0 → ⊥) → wordRead w ≡ wordFound (wordAs w)

@@ -10,17 +10,17 @@ use Rattle.ubfa.specs.declared.UbfaCompared.{UbfaCompared}
 use Rattle.ubfa.specs.declared.UbfaWord.{UbfaWord}
 
 -- ubfa_decoded
-unfoldable pub decodedIn : UbfaDecoded → Tables → A.Decoded
-decodedIn r t = record { number = r .number; place = r .place; root = r .root; used = r .rows; tables = t }
+unfoldable pub decodedStruct : UbfaDecoded → Tables → A.Decoded
+decodedStruct r t = record { number = r .number; place = r .place; root = r .root; used = r .rows; tables = t }
 
 -- ubfa_written
-unfoldable pub writtenIn : UbfaWritten → List ℕ → List ℕ → A.Written
-writtenIn r scratch output = record { number = r .number; bytes = r .bytes; scratch = scratch; output = output }
+unfoldable pub writtenStruct : UbfaWritten → List ℕ → List ℕ → A.Written
+writtenStruct r scratch output = record { number = r .number; bytes = r .bytes; scratch = scratch; output = output }
 
 -- ubfa_compared
-unfoldable pub comparedIn : UbfaCompared → List ℕ → A.Compared
-comparedIn r scratch = record { number = r .number; equal = r .equal; scratch = scratch }
+unfoldable pub comparedStruct : UbfaCompared → List ℕ → A.Compared
+comparedStruct r scratch = record { number = r .number; equal = r .equal; scratch = scratch }
 
 -- ubfa_word
-unfoldable pub wordIn : UbfaWord → F.Word
-wordIn r = record { number = r .number; value = r .value }
+unfoldable pub wordStruct : UbfaWord → F.Word
+wordStruct r = record { number = r .number; value = r .value }

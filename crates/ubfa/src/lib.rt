@@ -9,7 +9,7 @@ ghost use Rattle.decoder.specs.Answers.{decodedAs, tables};
 ghost use Rattle.text.specs.Answers.{writtenAs};
 ghost use Rattle.comparison.specs.Answers.{comparedAs};
 ghost use Rattle.words.specs.Answers.{wordAs};
-ghost use Rattle.ubfa.specs.Answers.{decodedIn, writtenIn, comparedIn, wordIn};
+ghost use Rattle.ubfa.specs.Answers.{decodedStruct, writtenStruct, comparedStruct, wordStruct};
 use comparison::Compared;
 use decoder::Decoded;
 use format::Row;
@@ -49,7 +49,7 @@ pub struct UbfaWord {
 // The numbers of what `decode` answers. A place is at most the message bound, so it fits a word.
 fn decoded_numbers(d: Decoded) -> UbfaDecoded
     requires { ⌜ ((t : Tables) → decodedAs d t .place ≤ messageBound) ⌝ }
-    ensures { λ r. ⌜ ((t : Tables) → decodedIn r t ≡ decodedAs d t) ⌝ }
+    ensures { λ r. ⌜ ((t : Tables) → decodedStruct r t ≡ decodedAs d t) ⌝ }
 {
     match d {
         Decoded::Accepted(consumed, root, used) => UbfaDecoded {
@@ -69,7 +69,7 @@ fn decoded_numbers(d: Decoded) -> UbfaDecoded
 
 // The numbers of what `write` answers.
 fn written_numbers(w: Written) -> UbfaWritten
-    ensures { λ r. ⌜ ((scratch output : List ℕ) → writtenIn r scratch output ≡ writtenAs w scratch output) ⌝ }
+    ensures { λ r. ⌜ ((scratch output : List ℕ) → writtenStruct r scratch output ≡ writtenAs w scratch output) ⌝ }
 {
     match w {
         Written::Bytes(n) => UbfaWritten {
@@ -85,7 +85,7 @@ fn written_numbers(w: Written) -> UbfaWritten
 
 // The numbers of what `compare` answers.
 fn compared_numbers(c: Compared) -> UbfaCompared
-    ensures { λ r. ⌜ ((scratch : List ℕ) → comparedIn r scratch ≡ comparedAs c scratch) ⌝ }
+    ensures { λ r. ⌜ ((scratch : List ℕ) → comparedStruct r scratch ≡ comparedAs c scratch) ⌝ }
 {
     match c {
         Compared::Equal => UbfaCompared {
@@ -105,7 +105,7 @@ fn compared_numbers(c: Compared) -> UbfaCompared
 
 // The numbers of what `read_word` answers.
 fn word_numbers(w: Word) -> UbfaWord
-    ensures { λ r. ⌜ wordIn r ≡ wordAs w ⌝ }
+    ensures { λ r. ⌜ wordStruct r ≡ wordAs w ⌝ }
 {
     match w {
         Word::Value(value) => UbfaWord {
@@ -128,7 +128,7 @@ pub extern "C" fn ubfa_decode(
     marks: &mut [u32],
     registers: &mut [u32],
 ) -> UbfaDecoded
-    ensures { λ r. ⌜ decodedIn r (tables (now (rows .exit)) (now (stack .exit)) (now (marks .exit)) (now (registers .exit))) ≡ decodeAnswer (now (message .entry)) (tables (now (rows .entry)) (now (stack .entry)) (now (marks .entry)) (now (registers .entry))) ⌝ }
+    ensures { λ r. ⌜ decodedStruct r (tables (now (rows .exit)) (now (stack .exit)) (now (marks .exit)) (now (registers .exit))) ≡ decodeAnswer (now (message .entry)) (tables (now (rows .entry)) (now (stack .entry)) (now (marks .entry)) (now (registers .entry))) ⌝ }
 {
     decoded_numbers(decoder::decode(message, rows, stack, marks, registers))
 }
@@ -143,7 +143,7 @@ pub extern "C" fn ubfa_write(
     scratch: &mut [u32],
     output: &mut [u8],
 ) -> UbfaWritten
-    ensures { λ r. ⌜ writtenIn r (now (scratch .exit)) (now (output .exit)) ≡ writeAnswer (now (message .entry)) (now (rows .entry)) used root (now (scratch .entry)) (now (output .entry)) ⌝ }
+    ensures { λ r. ⌜ writtenStruct r (now (scratch .exit)) (now (output .exit)) ≡ writeAnswer (now (message .entry)) (now (rows .entry)) used root (now (scratch .entry)) (now (output .entry)) ⌝ }
 {
     written_numbers(text::write(message, rows, used, Row(root), scratch, output))
 }
@@ -161,7 +161,7 @@ pub extern "C" fn ubfa_compare(
     root_b: u32,
     scratch: &mut [u32],
 ) -> UbfaCompared
-    ensures { λ r. ⌜ comparedIn r (now (scratch .exit)) ≡ compareAnswer (now («message_a» .entry)) (now («rows_a» .entry)) «used_a» «root_a» (now («message_b» .entry)) (now («rows_b» .entry)) «used_b» «root_b» (now (scratch .entry)) ⌝ }
+    ensures { λ r. ⌜ comparedStruct r (now (scratch .exit)) ≡ compareAnswer (now («message_a» .entry)) (now («rows_a» .entry)) «used_a» «root_a» (now («message_b» .entry)) (now («rows_b» .entry)) «used_b» «root_b» (now (scratch .entry)) ⌝ }
 {
     compared_numbers(comparison::compare(
         message_a,
@@ -185,7 +185,7 @@ pub extern "C" fn ubfa_read_word(
     row: u32,
     k: u64,
 ) -> UbfaWord
-    ensures { λ r. ⌜ wordIn r ≡ wordAnswer (now (message .entry)) (now (rows .entry)) used row k ⌝ }
+    ensures { λ r. ⌜ wordStruct r ≡ wordAnswer (now (message .entry)) (now (rows .entry)) used row k ⌝ }
 {
     word_numbers(words::read_word(message, rows, used, Row(row), k))
 }

@@ -2,7 +2,7 @@
 use mathlib.Core.Path.{refl}
 use Rattle.comparison.specs.Answers.{comparedAs}
 use Rattle.format.specs.Answer.{compareRefusal}
-use Rattle.ubfa.specs.Answers.{comparedIn}
+use Rattle.ubfa.specs.Answers.{comparedStruct}
 use borrow.Author.Needs.{needs}
 use Rattle.ubfa.proofs.compared_numbers.Statement.{statement}
 use Rattle.ubfa.proofs.compared_numbers.Tie as tie
@@ -20,15 +20,15 @@ cast-t4 : tie.Need-cast-t4
 cast-t4 c = search needs
 
 returns : tie.Need-returns
-unfolding comparedIn comparedAs
+unfolding comparedStruct comparedAs
 returns c scratch = rw (c .enum-told .given .1) refl
 
 returns-2 : tie.Need-returns-2
-unfolding comparedIn comparedAs
+unfolding comparedStruct comparedAs
 returns-2 c scratch = rw (c .enum-told2 .given .1) refl
 
 returns-3 : tie.Need-returns-3
-unfolding comparedIn comparedAs compareRefusal
+unfolding comparedStruct comparedAs compareRefusal
 returns-3 c scratch = rw (c .before .c .given .1) refl
 
 pub compared-numbers-spec : {M : Type 1} → statement M

@@ -2,7 +2,7 @@
 use mathlib.Core.Path.{refl}
 use Rattle.format.specs.Answer.{decodeRefusal}
 use Rattle.decoder.specs.Answers.{decodedAs}
-use Rattle.ubfa.specs.Answers.{decodedIn}
+use Rattle.ubfa.specs.Answers.{decodedStruct}
 use Rattle.ubfa.proofs.Places.{consumed-fits, place-fits}
 use borrow.Author.Needs.{needs}
 use Rattle.ubfa.proofs.decoded_numbers.Statement.{statement}
@@ -24,11 +24,11 @@ cast-t10 : tie.Need-cast-t10
 cast-t10 c = let at = c .before .before in place-fits _ _ _ (at .d2 .given .1) (at .before .before .pre)
 
 returns : tie.Need-returns
-unfolding decodedIn decodedAs
+unfolding decodedStruct decodedAs
 returns c t = rw (c .before .d .given .1) refl
 
 returns-2 : tie.Need-returns-2
-unfolding decodedIn decodedAs decodeRefusal
+unfolding decodedStruct decodedAs decodeRefusal
 returns-2 c t = rw (c .before .before .d2 .given .1) refl
 
 pub decoded-numbers-spec : {M : Type 1} → statement M

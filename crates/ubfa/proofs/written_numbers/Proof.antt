@@ -2,7 +2,7 @@
 use mathlib.Core.Path.{refl}
 use Rattle.format.specs.Answer.{writeRefusal}
 use Rattle.text.specs.Answers.{writtenAs}
-use Rattle.ubfa.specs.Answers.{writtenIn}
+use Rattle.ubfa.specs.Answers.{writtenStruct}
 use borrow.Author.Needs.{needs}
 use Rattle.ubfa.proofs.written_numbers.Statement.{statement}
 use Rattle.ubfa.proofs.written_numbers.Tie as tie
@@ -17,11 +17,11 @@ cast-t6 : tie.Need-cast-t6
 cast-t6 c = search needs
 
 returns : tie.Need-returns
-unfolding writtenIn writtenAs
+unfolding writtenStruct writtenAs
 returns c scratch output = rw (c .before .w .given .1) refl
 
 returns-2 : tie.Need-returns-2
-unfolding writtenIn writtenAs writeRefusal
+unfolding writtenStruct writtenAs writeRefusal
 returns-2 c scratch output = rw (c .before .w2 .given .1) refl
 
 pub written-numbers-spec : {M : Type 1} → statement M
