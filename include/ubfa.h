@@ -53,12 +53,12 @@
 extern "C" {
 #endif
 
-#define UBFA_ROW_WORDS 4          /* words of a row */
+#define UBFA_ROW_WORDS 4           /* words of a row */
 #define UBFA_MESSAGE_BYTES 1048576 /* bytes of a message slice, at most */
-#define UBFA_ROWS 65536           /* rows, at most; a longer table is not used past them */
-#define UBFA_STACK_WORDS 4096     /* values on the stack, at most; likewise */
-#define UBFA_MARKS 256            /* noted depths, at most; likewise */
-#define UBFA_REGISTER_WORDS 256   /* words of the register table, at least */
+#define UBFA_ROWS 65536            /* rows, at most; a longer table is not used past them */
+#define UBFA_STACK_WORDS 4096      /* values on the stack, at most; likewise */
+#define UBFA_MARKS 256             /* noted depths, at most; likewise */
+#define UBFA_REGISTER_WORDS 256    /* words of the register table, at least */
 
 typedef struct { uint32_t number, place, root, rows; } ubfa_decoded; /* 0, bytes consumed, root row, rows used | number, place, 0, 0 */
 typedef struct { uint32_t number, equal; } ubfa_compared;            /* 0, 1 or 0 | number, 0 */
