@@ -7,7 +7,7 @@ use native.Mathlib.Omega.{arith}
 use lib.ListN.{length}
 use lib.Dec.{ltb}
 use borrow.Author.Tests.{ltb-false}
-use Rattle.format.specs.Answer.{Tables, Decoded, overBound, limitsOf, decodeRefusal, decodeResult, decodeAnswer}
+use Rattle.format.specs.Answer.{Tables, overBound, limitsOf, decodeRefusal, decodeResult, decodeAnswer}
 use Rattle.format.specs.Bound.{messageBound, registerWords}
 use Rattle.format.specs.Lex.{lex}
 use Rattle.format.specs.Machine as M

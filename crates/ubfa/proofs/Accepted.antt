@@ -2,7 +2,6 @@
 use Prim.Native.Nat.{ℕ}
 use mathlib.Core.Path.{_≡_, ap, sym, _∙_}
 use mathlib.Core.List.{List}
-use Rattle.format.specs.Answer as A
 use Rattle.format.specs.Answer.{Tables, decodeAnswer}
 use Rattle.format.specs.declared.Row.{Row}
 use Rattle.decoder.specs.Answers.{decodedAs}

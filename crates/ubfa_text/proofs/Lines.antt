@@ -1,16 +1,16 @@
 -- From what `decode` and `write` promise to the line that the program has to write.
-use Prim.Native.Nat.{ℕ, _+_, _*_, _≤_}
+use Prim.Native.Nat.{ℕ, _+_, _≤_}
 use mathlib.Core.Path.{_≡_, refl, ap, _∙_}
 use mathlib.Core.Bool.{Bool, true, false, cond}
 use mathlib.Core.List.{List, _++_}
 use native.Mathlib.Omega.{arith}
-use lib.ListN.{length, take, drop, replicate, length-append, length-replicate}
+use lib.ListN.{length, drop, replicate, length-append}
 use lib.Seq.{take-append-seam}
 use lib.Dec.{ltb}
 use borrow.Author.Tests.{le-ltb}
 use Rattle.format.specs.Answer as A
 use Rattle.format.specs.Answer.{Tables, zeroed, limitsOf, decodeAnswer, decodeResult, writeRefusal, writeText, writeAnswer}
-use Rattle.format.specs.Rows.{rowValues, rowWords, rowRoom, rowsOf, termAt}
+use Rattle.format.specs.Rows.{rowValues, rowRoom, rowsOf, termAt}
 use Rattle.format.specs.Sound.{soundTable}
 use Rattle.format.specs.Term.{Term}
 use Rattle.format.specs.Text.{plain}
@@ -28,7 +28,7 @@ use Rattle.text.specs.declared.Written.{Written}
 use Rattle.text.specs.declared.Written.the-variants as W
 use Rattle.demands.specs.Demand2.{inTerms, machineSays}
 use Rattle.demands.proofs.Demand2.{number, demand2}
-use Rattle.ubfa_text.specs.Response.{programTables, Line, refusal, text, line, lineSays, responseOf, InOutput}
+use Rattle.ubfa_text.specs.Response.{programTables, refusal, text, line, lineSays, responseOf, InOutput}
 use Rattle.ubfa_text.specs.declared.respond.Response.{Response}
 use Rattle.ubfa_text.specs.declared.respond.Response.the-variants.{Refused}
 
