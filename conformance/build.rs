@@ -1,4 +1,4 @@
-//! Finds the archive of the library under test, and takes 01's bounds from its C header.
+//! Finds the archive of the library under test, and takes 01's bounds and the words for each refusal from its C header.
 
 use std::env;
 use std::fs;
@@ -7,7 +7,7 @@ use std::path::{Path, PathBuf};
 fn main() {
     let package = PathBuf::from(variable("CARGO_MANIFEST_DIR"));
     link(&package);
-    take_bounds(&package.join("../include/ubfa.h"));
+    take_header(&package.join("../include/ubfa.h"));
 }
 
 fn variable(name: &str) -> String {
@@ -33,14 +33,16 @@ fn link(package: &Path) {
     println!("cargo::rustc-link-lib=static=ubfa");
 }
 
-/// Writes every `#define UBFA_NAME NUMBER` of the header as a constant NAME.
-fn take_bounds(header: &Path) {
+/// Writes every `#define UBFA_NAME NUMBER` of the header as a constant NAME, and its list of refusals as REFUSALS.
+fn take_header(header: &Path) {
     println!("cargo::rerun-if-changed={}", header.display());
     let text =
         fs::read_to_string(header).unwrap_or_else(|error| panic!("{}: {error}", header.display()));
     let constants: String = text.lines().filter_map(constant).collect();
-    let file = Path::new(&variable("OUT_DIR")).join("bounds.rs");
-    fs::write(&file, constants).unwrap_or_else(|error| panic!("{}: {error}", file.display()));
+    let refusals: String = text.lines().filter_map(refusal).collect();
+    let written = format!("{constants}pub const REFUSALS: &[(u32, &str)] = &[{refusals}];\n");
+    let file = Path::new(&variable("OUT_DIR")).join("header.rs");
+    fs::write(&file, written).unwrap_or_else(|error| panic!("{}: {error}", file.display()));
 }
 
 fn constant(line: &str) -> Option<String> {
@@ -48,4 +50,11 @@ fn constant(line: &str) -> Option<String> {
     let name = words.next()?;
     let number: usize = words.next()?.parse().ok()?;
     Some(format!("pub const {name}: usize = {number};\n"))
+}
+
+/// A refusal stands in the header's comment as its number, two blanks and when it is given.
+fn refusal(line: &str) -> Option<String> {
+    let (number, meaning) = line.strip_prefix(" *")?.trim_start().split_once("  ")?;
+    let number: u32 = number.parse().ok()?;
+    Some(format!("({number}, {meaning:?}),"))
 }

@@ -227,7 +227,10 @@ fn long_files() {
         &[("messages", 1_100), ("accepted", 1_100)],
     );
     let said = expect(&[&tape], 0, &[("refused", 1)]);
-    assert!(said.contains("the message is over its bound"), "{said}");
+    assert!(
+        said.contains("a message slice is over UBFA_MESSAGE_BYTES"),
+        "{said}"
+    );
     let doubled = [b"1 >a", b"{aa}>a".repeat(25).as_slice(), b"a$"].concat();
     let doubled = folder.file("doubled", &doubled);
     expect(&[&doubled], 0, &[("accepted", 1), ("long texts", 1)]);

@@ -1,31 +1,8 @@
 //! What a run has met, counted.
 
+use conformance::header;
 use std::collections::BTreeMap;
 use std::fmt::{self, Display, Formatter};
-
-/// Refusals 1 to 20, in the words of the C header.
-const MEANINGS: [&str; 20] = [
-    "the message is over its bound",
-    "a lent table is too short to begin with",
-    "the message ends inside an item or before `$`",
-    "a byte that is not allowed there",
-    "an integer out of the range of 64 bits",
-    "a pop, or a tag, with too few values above the noted depth",
-    "`~` without an integer, `&` without a list",
-    "a negative count",
-    "an empty register pushed",
-    "`}` with no depth noted, `$` with one noted",
-    "`$` with a stack depth other than 1",
-    "no room in the rows",
-    "no room on the stack",
-    "no room for noted depths",
-    "the plain text is longer than the output",
-    "unsound rows",
-    "`}` with a stack depth under the noted one",
-    "not a sensor block",
-    "a block's length is no multiple of its words' width",
-    "no such word",
-];
 
 #[derive(Default)]
 pub struct Counts {
@@ -70,7 +47,9 @@ impl Display for Counts {
     }
 }
 
+/// When a refusal is given, in the words of the C header.
 fn meaning(number: u32) -> &'static str {
-    let index = (number as usize).wrapping_sub(1);
-    MEANINGS.get(index).unwrap_or(&"no number of 01")
+    let mut refusals = header::REFUSALS.iter();
+    let found = refusals.find(|&&(refusal, _)| refusal == number);
+    found.map_or("no number of 01", |&(_, meaning)| meaning)
 }
