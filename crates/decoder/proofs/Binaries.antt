@@ -1,7 +1,7 @@
 -- `~`, `#` and `&`, and what they ask of the rows on the stack.
 use Prim.Native.Nat.{ℕ, suc, _+_, _*_, _-_, _^_, _≤_, _<_}
 use Prim.Native.Char.{code}
-use mathlib.Core.Path.{_≡_, refl, ap, sym, _∙_}
+use mathlib.Core.Path.{_≡_, refl, sym, _∙_}
 use mathlib.Core.Bool.{Bool, true, false}
 use mathlib.Core.Option.{Option, none, some}
 use mathlib.Core.List.{List}
@@ -19,8 +19,7 @@ use Rattle.format.specs.Machine.{base, step}
 use Rattle.format.specs.Rows.{Row, row, rowValues, rowAt, rowsOf, rowInteger, integerOfRow, isListKind, makeRows, add, integerKind, binaryKind, nilKind, consKind, spanRow, nilRow, consRow}
 use Rattle.format.specs.Answer.{Tables}
 use Rattle.table.specs.Words.{rowIn, lastFirst}
-use Rattle.format.proofs.TableRows.{length-rows}
-use Rattle.table.proofs.Rows.{row-in}
+use Rattle.table.proofs.Rows.{row-of}
 use Rattle.decoder.specs.declared.binary.Count.the-variants.{Of, NoInteger, Negative}
 use Rattle.decoder.specs.declared.state.State.{State}
 use Rattle.decoder.specs.Answers.{tables}
@@ -29,11 +28,9 @@ use Rattle.decoder.specs.Readers.{countAs}
 use Rattle.decoder.proofs.Limits.{refused-step}
 use Rattle.decoder.proofs.Pops.{pop-few, pop-top}
 
--- a row that the machine keeps is the one that the table holds
-held-row : (t : Tables) (s : State) → Ready t s → (v : ℕ) → rowAt (rowsOf (s .next .0) (t .rows)) v ≡ rowIn (t .rows) v
-held-row t s h v =
-    let mem : List Row = rowsOf (s .next .0) (t .rows) in
-    sym (row-in (t .rows) mem v (omega (arith, h .used, length-rows (s .next .0) (t .rows)))) ∙ ap (λ (w : List ℕ). rowIn w v) (sym (h .rows))
+-- a row on the stack that the machine keeps is the one that the table holds
+held-row : (t : Tables) (s : State) → Ready t s → (i : ℕ) → i < s .depth .0 → (v : ℕ) → v ≡ getD (t .stack) i 0 → rowAt (rowsOf (s .next .0) (t .rows)) v ≡ rowIn (t .rows) v
+held-row t s h i l v e = sym (row-of (t .rows) (s .next .0) v (h .used) (rw e (h .values i l)))
 
 -- the count that a row is
 module _ (x : Row) where
@@ -88,7 +85,7 @@ module _ (rows stack marks registers : List ℕ) (s : State) (r : List ℕ) wher
     pub binary-popped : taken (tables rows stack marks registers) s r tildeItem
         ≡ limited (tables rows stack marks registers) s (M.takeBinary rowValues (s .at .0) r (machineOf (tables rows stack marks registers) s) (lastFirst stack (s .depth .0 - 1)) (rowInteger (rowIn rows v)))
     unfolding taken step machineOf
-    binary-popped = rw (pop-top (s .at .0) (lastFirst marks (s .marks)) stack _ (s .depth .0) g, ← e, held-row (tables rows stack marks registers) s h v) refl
+    binary-popped = rw (pop-top (s .at .0) (lastFirst marks (s .marks)) stack _ (s .depth .0) g, ← e, held-row (tables rows stack marks registers) s h (s .depth .0 - 1) (omega arith) v e) refl
 
     pub binary-7 : countAs (rowInteger (rowIn rows v)) ≡ NoInteger → taken (tables rows stack marks registers) s r tildeItem ≡ stops 7 (s .at .0)
     unfolding M.takeBinary
@@ -161,10 +158,10 @@ module _ (rows stack marks registers : List ℕ) (s : State) (r : List ℕ) wher
 
     pub cons-7 : isListKind (rowIn rows l .kind) ≡ false → taken (tables rows stack marks registers) s r ampersandItem ≡ stops 7 (s .at .0)
     unfolding M.consList machineOf
-    cons-7 q = cons-popped ∙ rw (held-row (tables rows stack marks registers) s h l, q) (refused-step (tables rows stack marks registers) s 7 (s .at .0))
+    cons-7 q = cons-popped ∙ rw (held-row (tables rows stack marks registers) s h (s .depth .0 - 1 - 1) (omega arith) l f, q) (refused-step (tables rows stack marks registers) s 7 (s .at .0))
 
     pub cons-made : isListKind (rowIn rows l .kind) ≡ true → made (tables rows stack marks registers) s (s .depth .0 - 2) 0 (row consKind v l 0) ≡ taken (tables rows stack marks registers) s r ampersandItem
     unfolding M.consList machineOf made M.fresh makeRows add withRow consRow
     cons-made q =
         let less : s .depth .0 - 1 - 1 ≡ s .depth .0 - 2 = omega arith in
-        sym (cons-popped ∙ rw (held-row (tables rows stack marks registers) s h l, q, less) refl)
+        sym (cons-popped ∙ rw (held-row (tables rows stack marks registers) s h (s .depth .0 - 1 - 1) (omega arith) l f, q, less) refl)

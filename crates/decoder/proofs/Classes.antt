@@ -1,16 +1,19 @@
 -- The item that a class's number stands for.
-use Prim.Native.Nat.{ℕ, _≤_}
+use Prim.Native.Nat.{ℕ, zero, suc, _+_, _≤_, _<_}
 use mathlib.Core.Path.{_≡_, refl, ap, sym, _∙_}
 use mathlib.Core.Bool.{Bool, true, false}
 use mathlib.Core.List.{List, [], _∷_}
 use native.Mathlib.Omega.{arith}
 use lib.ListN.{getD, List·getD-eq-default}
-use lib.Dec.{leb}
-use borrow.Author.Tests.{eqb-true, leb-true, leb-false}
-use Rattle.format.proofs.Tests.{None, past-none}
+use lib.Dec.{eqb, leb}
+use borrow.Author.Tests.{eqb-true, eqb-false, ne-eqb, leb-true, leb-false}
+use Rattle.format.proofs.Classes.{minus-bytes}
 use Rattle.format.specs.Byte as B
 use Rattle.format.specs.Byte.{Class, classOf, classCode, hasClass}
 use Rattle.format.specs.Lex.{lex, itemOf}
+use Rattle.lexer.specs.Integer.{withSign}
+use Rattle.lexer.proofs.Bytes.{has, digit-range}
+use Rattle.decoder.specs.Readers.{begunItem, begunBy}
 
 -- the classes by their numbers
 classes : List Class
@@ -58,6 +61,41 @@ class-bound c = by (leb (classCode c) 15) refl
         let last : c ≡ B.register = sym (numbered c) ∙ List·getD-eq-default classes B.register {n = classCode c} past in
         absurd (omega (arith, ap classCode last))
 
--- what is none of the others is the comma
-pub only-comma : (c : Class) (n : ℕ) → n ≡ classCode c → None 0 14 n × (n ≡ 15 → ⊥) → n ≡ classCode B.comma
-only-comma c n e h = omega (arith, past-none 0 14 n (h .0) (omega arith), class-bound c, h .1)
+-- besides what is known of A, n is none of the numbers from `first` on, so many
+abbrev pub NoneOn : Type 0 → ℕ → ℕ → ℕ → Type 0
+NoneOn A first zero n = A
+NoneOn A first (suc k) n = NoneOn A first k n × (n ≡ first + k → ⊥)
+
+past-none : (A : Type 0) (first k n : ℕ) → NoneOn A first k n → first ≤ n → first + k ≤ n
+past-none A first zero n h l = omega arith
+past-none A first (suc k) n h l = let m = past-none A first k n (h .0) l in omega (arith, m, h .1)
+
+none-base : (A : Type 0) (first k n : ℕ) → NoneOn A first k n → A
+none-base A first zero n h = h
+none-base A first (suc k) n h = none-base A first k n (h .0)
+
+-- a number that is none of those that the step's arms have alone
+abbrev pub Rest : ℕ → Type 0
+Rest n = NoneOn (Unit {0} × (n ≡ 0 → ⊥)) 3 11 n × (n ≡ 15 → ⊥)
+
+-- what is left past the integers is the comma
+pub only-comma : (c : Class) (n : ℕ) → n ≡ classCode c → Rest n → 3 ≤ n → n ≡ classCode B.comma
+only-comma c n e h l = omega (arith, past-none _ 3 11 n (h .0) l, class-bound c, h .1)
+
+-- what is left below them begins an integer
+module _ (b n : ℕ) (h : b < 256) (e : n ≡ classCode (classOf b)) (rest : Rest n) (l : n < 3) where
+  integer : (A : Type 0) → (hasClass B.digit b ≡ true → A) → (hasClass B.minus b ≡ true → A) → A
+  integer A digit minus = by (eqb n 1) refl
+    where
+      by : (q : Bool) → eqb n 1 ≡ q → A
+      by true f = digit (has B.digit b e (eqb-true n 1 f))
+      by false f = minus (has B.minus b e (omega (arith, eqb-false n 1 f, none-base _ 3 11 n (rest .0) .1)))
+
+  pub integer-lex : (r : List ℕ) → lex b r ≡ begunItem (begunBy b) r
+  unfolding begunItem begunBy itemOf withSign
+  integer-lex r =
+      integer _ (λ d. rw (lex-class B.digit b r d, ne-eqb b 45 (λ z. omega (arith, z, digit-range b d))) refl)
+      (λ m. rw (lex-class B.minus b r m, sym (minus-bytes b h) ∙ m) refl)
+
+  pub integer-first : (b ≡ 45 → ⊥) → 48 ≤ b
+  integer-first not = integer _ (λ d. digit-range b d .0) (λ m. absurd (not (eqb-true b 45 (sym (minus-bytes b h) ∙ m))))

@@ -14,8 +14,8 @@ pub mod Binaries
 pub mod Answered
 -- the class of an item's first byte
 pub mod Classes
--- white space, an item's turn, and the loop over both
-pub mod White
+-- the limits, an item's turn, and the loop over items
+pub mod Within
 pub mod Turns
 pub mod Loop
 -- the whole answer

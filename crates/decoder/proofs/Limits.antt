@@ -1,6 +1,6 @@
 -- What the limits of the tables make of a step, by the tests that the code makes.
 use Prim.Native.Nat.{ℕ, suc, _+_, _≤_, _<_, min}
-use mathlib.Core.Path.{_≡_, refl, ap, sym, _∙_}
+use mathlib.Core.Path.{_≡_, refl, sym}
 use mathlib.Core.List.{List, [], _∷_, _++_}
 use native.Mathlib.Numerals.{add-one}
 use native.Mathlib.Omega.{arith}
@@ -17,7 +17,8 @@ use Rattle.decoder.specs.declared.state.Answer.the-variants.{More, Refus
 use Rattle.decoder.specs.Answers.{tables}
 use Rattle.decoder.specs.Held.{Ready, Turn, goes, stops, machineOf, turn, after, limited, withRow, made}
 use Rattle.format.proofs.TableRows.{length-rows}
-use Rattle.table.proofs.Rows.{stored-after, pushed, length-lastFirst}
+use Rattle.table.proofs.Rows.{pushed, length-lastFirst}
+use Rattle.table.proofs.Cleared.{stored-rows, stored-length}
 
 -- a refusal, as the code answers it
 pub refusal : {x : Turn} (n : ℕ) (p : Offset) (t : Tables) → x ≡ stops n (p .0) → turn (Refused n p) t ≡ x
@@ -49,16 +50,11 @@ module _ (t : Tables) (s : State) where
     unfolding limited after bounded limitsOf
     room-for h g f = simp (le-ltb _ _ h, le-ltb _ _ g, le-ltb _ _ f)
 
--- rows stored where the next ones belong
-pub stored : (t : Tables) (s : State) → Ready t s → (xs : List Row) → s .next .0 + length xs ≤ rowRoom (t .rows)
-    → storedRows (t .rows) (s .next .0) xs ≡ rowsIn (t .rows) (machineOf t s .memory ++ xs)
-unfolding machineOf
-stored t s h xs g =
-    let mem : List Row = rowsOf (s .next .0) (t .rows) in
-    let e : length mem ≡ s .next .0 = length-rows (s .next .0) (t .rows) in
-    ap (λ (w : List ℕ). storedRows w (s .next .0) xs) (h .rows)
-    ∙ ap (λ (n : ℕ). storedRows (rowsIn (t .rows) mem) n xs) (sym e)
-    ∙ stored-after (t .rows) mem xs (omega arith)
+-- rows stored where the next ones belong, n in all
+pub stored : (rows : List ℕ) (next : ℕ) (xs : List Row) → next + length xs ≤ rowRoom rows → (n : ℕ) → n ≡ next + length xs
+    → rowsIn (storedRows rows next xs) (rowsOf n (storedRows rows next xs)) ≡ rowsIn rows (rowsOf next rows ++ xs)
+unfolding rowsIn
+stored rows next xs h n e = rw (e, stored-rows rows next xs h, stored-length rows next xs h) refl
 
 -- one row more over the values below a depth
 module _ (rows stack marks registers : List ℕ) (s : State) (below k : ℕ) (x : Row) where
@@ -83,4 +79,4 @@ module _ (rows stack marks registers : List ℕ) (s : State) (below k : ℕ) (x 
       let room : limited t s (go k 1 m) ≡ _ = room-for t s k 1 m (omega arith) (omega arith) (omega (arith, h .noted)) in
       let top : lastFirst (set stack below (s .next .0)) (below + 1) ≡ length (rowsOf (s .next .0) rows) ∷ lastFirst stack below =
       rw (add-one, length-rows) (pushed stack below (s .next .0) (omega arith)) in
-      rw (e, top, stored t s h (x ∷ []) (omega arith)) (sym room)
+      rw (e, top, stored rows (s .next .0) (x ∷ []) (omega arith) (s .next .0 + 1) refl) (sym room)

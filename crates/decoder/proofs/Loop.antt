@@ -1,27 +1,27 @@
--- The run's loop: what holds before each item, and what the white space, the item and the end make of it.
-use Prim.Native.Nat.{ℕ, suc, _+_, _≤_, _<_}
-use mathlib.Core.Path.{_≡_, refl, ap, sym, _∙_}
+-- The run's loop: what holds before each item, and what the item and the end make of it.
+use Prim.Native.Nat.{ℕ, suc, _+_, _*_, _≤_, _<_}
+use mathlib.Core.Path.{_≡_, refl, sym, _∙_}
 use mathlib.Core.List.{List, _∷_}
 use native.Mathlib.Numerals.{add-one}
 use native.Mathlib.Omega.{arith}
-use lib.ListN.{length, drop, length-drop}
+use lib.ListN.{length, drop, getD, drop-of-length-le}
 use Rattle.format.specs.Bound.{registerWords}
 use Rattle.format.specs.Lex.{lex}
 use Rattle.format.specs.Machine as M
 use Rattle.format.specs.Machine.{runFrom}
-use Rattle.format.specs.Rows.{rowValues}
+use Rattle.format.specs.Rows.{rowWords, rowValues}
 use Rattle.format.specs.Answer.{Tables, zeroed, limitsOf, rowsIn, SameLengths}
 use Rattle.format.specs.declared.Offset.{Offset}
 use Rattle.format.specs.declared.Row.{Row as RowNumber}
 use Rattle.format.proofs.Unchanged.{same-limits}
-use Rattle.lexer.specs.White.{nextFrom}
-use Rattle.lexer.specs.declared.white.Next.the-variants.{Byte, Ended}
+use Rattle.table.specs.Words.{clearedFrom}
+use Rattle.table.proofs.Cleared.{cleared-rows}
+use Rattle.lexer.proofs.Bytes.{byte-at}
 use Rattle.decoder.specs.declared.Decoded.the-variants as Decoded
 use Rattle.decoder.specs.declared.state.State.{State}
 use Rattle.decoder.specs.declared.state.Answer.the-variants.{More, Done, Refused}
 use Rattle.decoder.specs.Held.{machineOf, turn, taken, leftAs, leftBy}
-use Rattle.decoder.proofs.White.{Within, Found, found, ended}
-use Rattle.decoder.proofs.Turns.{Before, within, refuses, accepts, goes-after, startState, start-machine, start-before}
+use Rattle.decoder.proofs.Turns.{Before, refuses, accepts, goes-after, startState, start-machine, start-before}
 
 -- before an item, in a run that began with the tables t₀: the run from here is the whole run
 pub record Going (message : List ℕ) (t₀ t : Tables) (s : State) : Type 0 where
@@ -35,52 +35,26 @@ same-lengths t = record { rows = refl; stack = refl; marks = refl; registers = r
 pub chain : {t t′ t″ : Tables} → SameLengths t t′ → SameLengths t′ t″ → SameLengths t t″
 chain a b = record { rows = a .rows ∙ b .rows; stack = a .stack ∙ b .stack; marks = a .marks ∙ b .marks; registers = a .registers ∙ b .registers }
 
-pub starts : (message : List ℕ) (t : Tables) → t .rows ≡ zeroed (t .rows) → t .registers ≡ zeroed (t .registers) → registerWords ≤ length (t .registers) → Going message t t startState
+pub starts : (message : List ℕ) (t : Tables) → t .registers ≡ zeroed (t .registers) → registerWords ≤ length (t .registers) → Going message t t startState
 unfolding M.run
-starts message t rows registers h = record {
-  before = start-before t rows registers message h;
+starts message t registers h = record {
+  before = start-before t registers message h;
   same = same-lengths t;
-  whole = rw (start-machine t rows registers) refl;
+  whole = rw (start-machine t registers) refl;
 }
 
--- a state with another place
-abbrev pub placed : State → Offset → State
-placed s at = record { at = at; next = s .next; depth = s .depth; marks = s .marks }
+-- an item's first byte
+pub byte-here : (message : List ℕ) (i : ℕ) → i < length message → drop i message ≡ getD message i 0 ∷ drop (suc i) message
+byte-here message i h = rw add-one at (byte-at message i h)
 
 module _ (message : List ℕ) (t₀ t : Tables) (s : State) (going : Going message t₀ t s) where
-  fits : Within (limitsOf t₀) (s .next .0) (machineOf t s)
-  fits = rw (same-limits t₀ t (going .same)) (within t s (going .before .ready))
-
   -- the slice's end
-  pub over : nextFrom (s .at .0) (drop (s .at .0) message) ≡ Ended → (words : List ℕ)
+  pub over : length message ≤ s .at .0 → (words : List ℕ)
       → leftAs (Decoded.Refused 3 (record { 0 = length message })) words ≡ leftBy (t₀ .rows) (M.run rowValues (limitsOf t₀) message)
-  unfolding leftAs leftBy
-  over e words = rw (← going .whole, ended (limitsOf t₀) (s .next .0) (machineOf t s) fits message (s .at .0) (going .before .inside) e) refl
-
-  module _ (b : ℕ) (at : Offset) (e : nextFrom (s .at .0) (drop (s .at .0) message) ≡ Byte b at) where
-    byte : Found (limitsOf t₀) (s .next .0) (machineOf t s) fits message (s .at .0) b (at .0)
-    byte = found (limitsOf t₀) (s .next .0) (machineOf t s) fits message (s .at .0) b at e
-
-    pub byte-inside : (s .at .0 ≤ at .0) × (at .0 < length message)
-    byte-inside = (byte .later, omega (arith, ap length (byte .here), length-drop (at .0) message))
-
-    pub byte-here : drop (at .0) message ≡ b ∷ drop (suc (at .0)) message
-    byte-here = byte .here
-
-    -- at the item's first byte
-    pub at-byte : Going message t₀ t (placed s at)
-    unfolding machineOf
-    at-byte =
-        let b = going .before in
-        record {
-          before = record {
-            ready = record { rows = b .ready .rows; used = b .ready .used; depth = b .ready .depth; noted = b .ready .noted; registers = b .ready .registers; values = b .ready .values };
-            kept = record { here = refl; sound = b .kept .sound; count = b .kept .count; stack = b .kept .stack; registers = b .kept .registers };
-            inside = omega (arith, byte-inside);
-          };
-          same = going .same;
-          whole = sym (byte .same) ∙ going .whole;
-        }
+  unfolding leftAs leftBy runFrom
+  over h words =
+      let last : s .at .0 ≡ length message = omega (arith, going .before .inside) in
+      rw (← going .whole, drop-of-length-le message h, last) refl
 
 module _ (message : List ℕ) (t₀ t t′ : Tables) (kept : SameLengths t t′) (s : State) (b : ℕ) (going : Going message t₀ t s) (here : drop (s .at .0) message ≡ b ∷ drop (suc (s .at .0)) message) where
   abbrev rest : List ℕ
@@ -100,8 +74,8 @@ module _ (message : List ℕ) (t₀ t t′ : Tables) (kept : SameLengths t t′)
   unfolding leftAs leftBy machineOf rowsIn
   done root e =
       let a = accepts message t t′ kept s b (going .before) here root (rw add-one at e) in
-      let words : t′ .rows ≡ rowsIn (t₀ .rows) (machineOf t s .memory) = a .1 ∙ going .before .ready .rows ∙ rw (← going .same .rows) refl in
-      rw (same-limits t₀ t (going .same), ← here-whole, a .0, words, add-one) refl
+      let left : clearedFrom (s .next .0 * rowWords) (t′ .rows) ≡ rowsIn (t₀ .rows) (machineOf t s .memory) = rw (a .1, cleared-rows (t .rows) (s .next .0) (going .before .ready .used), going .same .rows) refl in
+      rw (same-limits t₀ t (going .same), ← here-whole, a .0, left, add-one) refl
 
   pub stopped : (n : ℕ) (p : Offset) → turn (Refused n p) t′ ≡ taken t s rest (lex b rest) → (words : List ℕ)
       → leftAs (Decoded.Refused n p) words ≡ leftBy (t₀ .rows) (M.run rowValues (limitsOf t₀) message)

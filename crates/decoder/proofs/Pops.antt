@@ -1,5 +1,5 @@
 -- Pops from the stack that the table holds, and the base that the marks give.
-use Prim.Native.Nat.{ℕ, zero, suc, _-_, _≤_, _<_}
+use Prim.Native.Nat.{ℕ, zero, suc, _-_, _^_, _≤_, _<_}
 use mathlib.Core.Path.{_≡_, refl}
 use mathlib.Core.List.{List}
 use native.Mathlib.Nat.{not-suc-le-zero}
@@ -30,6 +30,12 @@ module _ (at : ℕ) (marks words : List ℕ) (next : ℕ → List ℕ → Step r
 pub base-none : (marks : List ℕ) (noted : ℕ) → noted ≡ 0 → 0 ≡ base (lastFirst marks noted)
 unfolding base lastFirst
 base-none marks noted e = rw e refl
+
+-- it is a word
+pub base-fits : (marks : List ℕ) → ((i : ℕ) → getD marks i 0 < 2 ^ 32) → (noted : ℕ) → base (lastFirst marks noted) < 2 ^ 32
+unfolding base lastFirst
+base-fits marks fits zero = omega arith
+base-fits marks fits (suc n) = fits n
 
 pub base-last : (marks : List ℕ) (noted : ℕ) → ¬ (noted ≡ 0) → getD marks (noted - 1) 0 ≡ base (lastFirst marks noted)
 unfolding base lastFirst

@@ -12,7 +12,7 @@ use Rattle.format.specs.Lex.{whiteItem, openItem, endItem, pushItem}
 use Rattle.format.specs.Machine as M
 use Rattle.format.specs.Machine.{Machine, refuse, go, bounded, step}
 use Rattle.format.specs.Rows.{rowValues, rowsOf}
-use Rattle.format.specs.Answer.{Tables}
+use Rattle.format.specs.Answer.{Tables, rowsIn}
 use Rattle.table.specs.Words.{lastFirst}
 use Rattle.decoder.specs.declared.state.State.{State}
 use Rattle.decoder.specs.declared.state.Answer.the-variants.{More, Done, Refused}
@@ -25,12 +25,12 @@ module _ (t : Tables) (s : State) (h : Ready t s) where
   -- an item that makes no row and leaves stack and marks within their room
   pub no-row : (k : ℕ) (stack marks : List ℕ) (registers : ℕ → _) → length stack ≤ min (length (t .stack)) stackBound → length marks ≤ min (length (t .marks)) markBound
       → limited t s (go k 0 (record { stack = stack; marks = marks; registers = registers; memory = machineOf t s .memory }))
-      ≡ goes (suc (s .at .0) + k) (s .next .0) stack marks registers (t .rows)
+      ≡ goes (suc (s .at .0) + k) (s .next .0) stack marks registers (rowsIn (t .rows) (rowsOf (s .next .0) (t .rows)))
   unfolding machineOf
   no-row k stack marks registers g f =
       let m : Machine rowValues = record { stack = stack; marks = marks; registers = registers; memory = rowsOf (s .next .0) (t .rows) } in
       let used : s .next .0 + 0 ≡ s .next .0 = omega arith in
-      room-for t s k 0 m (omega (arith, h .used)) g f ∙ rw (used, ← h .rows) refl
+      room-for t s k 0 m (omega (arith, h .used)) g f ∙ rw used refl
 
   -- the stack and the marks as they are
   pub deep : length (lastFirst (t .stack) (s .depth .0)) ≤ min (length (t .stack)) stackBound

@@ -95,6 +95,6 @@ module _ (rows stack marks registers : List ℕ) (s : State) (r : List ℕ) wher
           let top : lastFirst (set stack low last) (low + 1) ≡ last ∷ lastFirst stack low = rw add-one (pushed stack low last (omega arith)) in
           let fits : s .depth .0 ≤ length stack = omega (arith, ready .depth) in
           let more : length (tupleRows (s .next .0) (between stack low (s .depth .0))) ≡ suc (s .depth .0 - low) = length-tuple rows stack low (s .depth .0) (s .next .0) in
-          let words = stored t s ready (tupleRows (s .next .0) (between stack low (s .depth .0))) (omega arith) in
+          let words = stored rows (s .next .0) (tupleRows (s .next .0) (between stack low (s .depth .0))) (omega arith) (s .next .0 + suc (s .depth .0 - low)) (omega arith) in
           rw (close-step h, at, used, top, le-leb low (s .depth .0) h, le-leb (s .depth .0) (length stack) fits, words, q)
           (sym (room-for t s 0 (suc (s .depth .0 - low)) closed (omega arith) (omega (arith, length-lastFirst stack low)) (omega (arith, ready .noted, length-lastFirst marks (s .marks - 1)))))

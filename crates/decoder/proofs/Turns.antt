@@ -4,7 +4,7 @@ use mathlib.Core.Path.{_≡_, refl, ap, sym, subst, _∙_}
 use mathlib.Core.Bool.{Bool, true, false, cond}
 use mathlib.Core.Option.{none}
 use mathlib.Core.List.{List, _∷_}
-use native.Mathlib.Nat.{sub-zero, not-suc-le-zero}
+use native.Mathlib.Nat.{not-suc-le-zero}
 use native.Mathlib.Omega.{arith}
 use lib.ListN.{length, drop, getD, length-drop}
 use lib.Seq.{drop-drop}
@@ -23,12 +23,13 @@ use Rattle.format.proofs.Moves as Mv
 use Rattle.format.proofs.Moves.{move, Inside, inside}
 use Rattle.format.proofs.SoundRows.{Below, Kept, Accepted, keeps, start-kept}
 use Rattle.format.proofs.Decoded.{rows-in}
+use Rattle.format.proofs.TableRows.{length-rows}
 use Rattle.table.specs.Words.{lastFirst}
 use Rattle.table.proofs.Rows.{length-lastFirst, getD-zeros}
 use Rattle.decoder.specs.declared.state.State.{State}
 use Rattle.decoder.specs.declared.state.Answer.the-variants.{More, Done, Refused}
 use Rattle.decoder.specs.Held.{Ready, registerIn, machineOf, turn, after, limited, taken}
-use Rattle.decoder.proofs.White.{Within, skipped}
+use Rattle.decoder.proofs.Within.{Within, skipped}
 
 -- a test of room that did not refuse
 let-pass : (c : Bool) (n p : ℕ) (x : Step rowValues) (k w : ℕ) (m : Machine rowValues) → cond c (refuse n p) x ≡ go k w m → (c ≡ false) × (x ≡ go k w m)
@@ -79,7 +80,7 @@ record Went (t : Tables) (s : State) (t′ : Tables) (s′ : State) (x : Step ro
   stack : lastFirst (t′ .stack) (s′ .depth .0) ≡ machine .stack
   marks : lastFirst (t′ .marks) (s′ .marks) ≡ machine .marks
   registers : registerIn (t′ .registers) ≡ machine .registers
-  rows : t′ .rows ≡ rowsIn (t .rows) (machine .memory)
+  rows : rowsIn (t′ .rows) (rowsOf (s′ .next .0) (t′ .rows)) ≡ rowsIn (t .rows) (machine .memory)
 
 goes-on : (t : Tables) (s : State) (t′ : Tables) (s′ : State) (x : Step rowValues) → turn (More s′) t′ ≡ after t s x → Went t s t′ s′ x
 unfolding turn after
@@ -170,7 +171,11 @@ module _ (message : List ℕ) (t t′ : Tables) (same : SameLengths t t′) (s :
     count = kept-on .count ∙ sym (on .used)
 
     memory : rowsOf (s′ .next .0) (t′ .rows) ≡ on .machine .memory
-    memory = rw (on .rows, ← count) (rows-in (t .rows) (on .machine .memory))
+    memory =
+        let words = t′ .rows in
+        let mem = rowsOf (s′ .next .0) words in
+        let found : rowsOf (s′ .next .0) (rowsIn words mem) ≡ mem = rw (length-rows (s′ .next .0) words) at (rows-in words mem) in
+        sym found ∙ ap (rowsOf (s′ .next .0)) (on .rows) ∙ rw (← count) (rows-in (t .rows) (on .machine .memory))
 
     held : machineOf t′ s′ ≡ on .machine
     unfolding machineOf
@@ -184,14 +189,13 @@ module _ (message : List ℕ) (t t′ : Tables) (same : SameLengths t t′) (s :
         let noted : s′ .marks ≡ length (on .machine .marks) = sym (length-lastFirst (t′ .marks) (s′ .marks)) ∙ ap length (on .marks) in
         let used : s′ .next .0 ≤ rowRoom (t′ .rows) = rw (← same .rows, on .used) (room .rows) in
         record {
-          rows = rw (memory, ← same .rows) (on .rows);
           used = used;
           depth = rw (← same .stack, deep) (room .stack);
           noted = rw (← same .marks, noted) (room .marks);
           registers = rw (← same .registers) (before .ready .registers);
           values = λ i l.
               let v = below-at (length (on .machine .memory)) (t′ .stack) (s′ .depth .0) (rw (on .stack) (kept-on .stack)) i l in
-              omega (arith, v, count, used);
+              omega (arith, v, count);
         }
 
     after-on : After s′
@@ -219,7 +223,7 @@ module _ (message : List ℕ) (t t′ : Tables) (same : SameLengths t t′) (s :
 abbrev pub startState : State
 startState = record { at = record { 0 = 0 }; next = record { 0 = 0 }; depth = record { 0 = 0 }; marks = 0 }
 
-module _ (t : Tables) (rows : t .rows ≡ zeroed (t .rows)) (registers : t .registers ≡ zeroed (t .registers)) where
+module _ (t : Tables) (registers : t .registers ≡ zeroed (t .registers)) where
   -- every register is empty
   empty : registerIn (t .registers) ≡ (λ (x : ℕ). none)
   unfolding registerIn zeroed
@@ -236,7 +240,6 @@ module _ (t : Tables) (rows : t .rows ≡ zeroed (t .rows)) (registers : t .regi
   unfolding rowsIn zeroed rowsOf wordsOf
   start-before message h = record {
     ready = record {
-      rows = rows ∙ rw sub-zero refl;
       used = omega arith;
       depth = omega arith;
       noted = omega arith;

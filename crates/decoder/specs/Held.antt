@@ -1,17 +1,17 @@
 -- The machine at rows as state and tables hold it, and what comes of an item, seen in them.
-use Prim.Native.Nat.{ℕ, suc, _+_, _-_, _≤_, _<_, min}
+use Prim.Native.Nat.{ℕ, suc, _+_, _*_, _-_, _≤_, _<_, min}
 use mathlib.Core.Path.{_≡_}
 use mathlib.Core.Bool.{cond}
 use mathlib.Core.Option.{Option, none, some}
 use mathlib.Core.List.{List, [], _∷_, _++_}
 use lib.ListN.{length, getD, take}
 use lib.Dec.{eqb}
-use Rattle.format.specs.Bound.{rowBound, stackBound, markBound, registerWords}
+use Rattle.format.specs.Bound.{stackBound, markBound, registerWords}
 use Rattle.format.specs.Lex.{Item}
 use Rattle.format.specs.Machine.{Machine, Step, Outcome, Result, refuse, go, finish, refused, accepted, bounded, step}
-use Rattle.format.specs.Rows.{Row, rowValues, rowsOf, rowRoom, spanRow}
+use Rattle.format.specs.Rows.{Row, rowWords, rowValues, rowsOf, rowRoom, spanRow}
 use Rattle.format.specs.Answer.{Tables, zeroed, limitsOf, rowsIn}
-use Rattle.table.specs.Words.{lastFirst}
+use Rattle.table.specs.Words.{lastFirst, clearedFrom}
 use Rattle.decoder.specs.declared.Decoded.{Decoded}
 use Rattle.decoder.specs.declared.Decoded.the-variants as Decoded
 use Rattle.decoder.specs.declared.state.State.{State}
@@ -31,16 +31,15 @@ machineOf t s = record {
   memory = rowsOf (s .next .0) (t .rows);
 }
 
--- what holds before each item: zeros past the rows made, no table over its room, and nothing on the stack past the bound of rows
+-- what holds before each item: no table over its room, and on the stack rows that are made
 pub record Ready (t : Tables) (s : State) : Type 0 where
-  pub rows : t .rows ≡ rowsIn (t .rows) (rowsOf (s .next .0) (t .rows))
   pub used : s .next .0 ≤ rowRoom (t .rows)
   pub depth : s .depth .0 ≤ min (length (t .stack)) stackBound
   pub noted : s .marks ≤ min (length (t .marks)) markBound
   pub registers : registerWords ≤ length (t .registers)
-  pub values : (i : ℕ) → i < s .depth .0 → getD (t .stack) i 0 < rowBound
+  pub values : (i : ℕ) → i < s .depth .0 → getD (t .stack) i 0 < s .next .0
 
--- what comes of an item, with the row table's words last: it goes on (place, rows used, stack, marks, registers), ends (root), or stops
+-- what comes of an item, with the row table's words last, as far as rows are made: it goes on (place, rows used, stack, marks, registers), ends (root), or stops
 pub data Turn : Type 0 where
   goes : ℕ → ℕ → List ℕ → List ℕ → (ℕ → Option ℕ) → List ℕ → Turn
   ends : ℕ → List ℕ → Turn
@@ -48,7 +47,7 @@ pub data Turn : Type 0 where
 
 -- as a function of this crate answers it, with the tables that it leaves
 unfoldable pub turn : Answer → Tables → Turn
-turn (More s) t = goes (s .at .0) (s .next .0) (lastFirst (t .stack) (s .depth .0)) (lastFirst (t .marks) (s .marks)) (registerIn (t .registers)) (t .rows)
+turn (More s) t = goes (s .at .0) (s .next .0) (lastFirst (t .stack) (s .depth .0)) (lastFirst (t .marks) (s .marks)) (registerIn (t .registers)) (rowsIn (t .rows) (rowsOf (s .next .0) (t .rows)))
 turn (Done root) t = ends (root .0) (t .rows)
 turn (Refused number place) t = stops number (place .0)
 
@@ -79,7 +78,7 @@ abbrev pub Spans : ℕ → (ℕ → Item) → Type 0
 Spans kind item = (at : ℕ) (r : List ℕ) (m : Machine rowValues) (k : ℕ)
     → step rowValues at r m (item k) ≡ go (suc k) 1 (withRow (spanRow kind (suc at) (take k r)) (m .stack) m)
 
--- what a run leaves: the root, the rows used and the words of the row table
+-- what a run leaves: the root, the rows used and the words of the row table, as far as rows are used
 pub record Left : Type 0 where
   pub root : ℕ
   pub used : ℕ
@@ -87,7 +86,7 @@ pub record Left : Type 0 where
 
 -- as the run answers it
 unfoldable pub leftAs : Decoded → List ℕ → Outcome Left
-leftAs (Decoded.Accepted consumed root used) words = accepted consumed (record { root = root .0; used = used; words = words })
+leftAs (Decoded.Accepted consumed root used) words = accepted consumed (record { root = root .0; used = used; words = clearedFrom (used * rowWords) words })
 leftAs (Decoded.Refused number place) words = refused number (place .0)
 
 -- as the machine's run gives it
@@ -97,7 +96,7 @@ leftBy words (accepted consumed r) = accepted consumed (record { root = r .root;
 
 -- the rows after a run: those of an accepted message are left
 abbrev pub settledRows : Decoded → List ℕ → List ℕ
-settledRows (Decoded.Accepted consumed root used) rows = rows
+settledRows (Decoded.Accepted consumed root used) rows = clearedFrom (used * rowWords) rows
 settledRows (Decoded.Refused number place) rows = zeroed rows
 
 -- the tables after a run: nothing else is

@@ -1,9 +1,11 @@
 -- What the items make of what the readers answer, and of a row.
-use Prim.Native.Nat.{ℕ}
+use Prim.Native.Nat.{ℕ, _-_}
 use Prim.Native.Char.{code}
+use mathlib.Core.Bool.{false, cond}
 use mathlib.Core.Option.{Option, none, some}
 use mathlib.Core.List.{List}
 use lib.IntN.{ℤ, pos, negsuc}
+use lib.Dec.{eqb}
 use Rattle.format.specs.Lex.{Item, tagItem, commentItem, quoted, digits, integerOf, negative}
 use Rattle.format.specs.declared.Offset.{Offset}
 use Rattle.lexer.specs.Integer.{withSign}
@@ -30,6 +32,10 @@ noIntegerAs (Integer.Value bits end) at ended = Refused 3 ended
 noIntegerAs Integer.OutOfRange at ended = Refused 5 at
 noIntegerAs (Integer.Stray p) at ended = Refused 4 p
 noIntegerAs (Integer.Ended begun) at ended = Refused 3 ended
+
+-- what the first byte of an integer begins
+unfoldable pub begunBy : ℕ → Begun
+begunBy b = cond (eqb b (code "-")) Minus (Digits false (b - code "0"))
 
 -- the item of an integer whose first byte is read, before the bytes r
 unfoldable pub begunItem : Begun → List ℕ → Item

@@ -40,7 +40,6 @@ pub fn decode(
     if registers.len() < bound::REGISTER_WORDS {
         return Decoded::Refused(refusal::SHORT_TABLE, Offset(0));
     }
-    table::clear(rows);
     table::clear(registers);
     let answer = run::run(message, rows, stack, marks, registers);
     settle::settle(rows, stack, marks, registers, answer);

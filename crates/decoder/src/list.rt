@@ -64,14 +64,15 @@ pub(crate) fn cons_item(rows: &mut [u32], stack: &mut [u32], marks: &[u32], s: S
     let p = at.0;
     let depth = s.depth;
     let base = state::base(marks, s.marks);
-    if (depth.0 as usize) <= (base.0 as usize) + 1 {
+    if depth.0 <= base.0 + 1 {
         return Answer::Refused(refusal::TOO_FEW, at);
     }
-    let item = state::top(stack, depth);
     let list = state::top(stack, Depth(depth.0 - 1));
     if !is_list(rows, list) {
         return Answer::Refused(refusal::WRONG_KIND, at);
     }
+    // loaded alone: a load of both words at once would wait for the two stores that made them
+    let item = state::top(stack, depth);
     value::push_value(
         rows,
         stack,

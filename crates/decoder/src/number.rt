@@ -6,11 +6,12 @@ ghost use lib.ListN.{length, drop};
 ghost use Rattle.format.specs.Bound.{messageBound};
 ghost use Rattle.decoder.specs.Answers.{tables};
 ghost use Rattle.decoder.specs.Held.{Ready, turn, taken};
-ghost use Rattle.decoder.specs.Readers.{noIntegerAs, begunItem};
+ghost use Rattle.decoder.specs.Readers.{noIntegerAs, begunItem, begunBy};
 use crate::state::Answer;
 use crate::state::State;
 use crate::value;
 use format::Offset;
+use format::byte;
 use format::kind;
 use format::refusal;
 use lexer::integer;
@@ -30,20 +31,32 @@ fn no_integer(q: Integer, at: Offset, ended: Offset) -> Answer
     }
 }
 
-// An integer, of which the first byte is read.
+// What the first byte of an integer, a minus or a digit, begins.
+fn begun_by(b: u8) -> Begun
+    requires { ⌜ ((b ≡ 45 → ⊥) → 48 ≤ b) ⌝ }
+    ensures { λ r. ⌜ r ≡ begunBy b ⌝ }
+{
+    if b == byte::MINUS {
+        return Begun::Minus;
+    }
+    Begun::Digits(false, (b - byte::ZERO) as u64)
+}
+
+// An integer, whose first byte is b.
 pub(crate) fn integer_item(
     message: &[u8],
     rows: &mut [u32],
     stack: &mut [u32],
     s: State,
-    begun: Begun,
+    b: u8,
 ) -> Answer
     requires { ⌜ (s .at .0 < length (now message)) × (length (now message) ≤ messageBound) ⌝ }
-    ensures { λ r. ⌜ ((marks registers : List ℕ) → Ready (tables (now (rows .entry)) (now (stack .entry)) marks registers) s → turn r (tables (now (rows .exit)) (now (stack .exit)) marks registers) ≡ taken (tables (now (rows .entry)) (now (stack .entry)) marks registers) s (drop (s .at .0 + 1) (now (message .entry))) (begunItem begun (drop (s .at .0 + 1) (now (message .entry))))) ⌝ }
+    requires { ⌜ ((b ≡ 45 → ⊥) → 48 ≤ b) ⌝ }
+    ensures { λ r. ⌜ ((marks registers : List ℕ) → Ready (tables (now (rows .entry)) (now (stack .entry)) marks registers) s → turn r (tables (now (rows .exit)) (now (stack .exit)) marks registers) ≡ taken (tables (now (rows .entry)) (now (stack .entry)) marks registers) s (drop (s .at .0 + 1) (now (message .entry))) (begunItem (begunBy b) (drop (s .at .0 + 1) (now (message .entry))))) ⌝ }
 {
     let at = s.at;
     let depth = s.depth;
-    let q = integer::read_integer(message, Offset(at.0 + 1), begun);
+    let q = integer::read_integer(message, Offset(at.0 + 1), begun_by(b));
     let Integer::Value(bits, end) = q else {
         return no_integer(q, at, Offset(message.len()));
     };

@@ -67,8 +67,7 @@ pub(crate) fn push_item(stack: &mut [u32], registers: &[u32], s: State, b: u8) -
     let at = s.at;
     let p = at.0;
     let next = s.next;
-    let d = s.depth.0;
-    let i = d as usize;
+    let i = s.depth.0;
     let j = b as usize;
     let held = registers[j];
     if held == 0 {
@@ -81,7 +80,7 @@ pub(crate) fn push_item(stack: &mut [u32], registers: &[u32], s: State, b: u8) -
     Answer::More(State {
         at: Offset(p + 1),
         next,
-        depth: Depth(d + 1),
+        depth: Depth(i + 1),
         marks: s.marks,
     })
 }

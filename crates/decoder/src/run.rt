@@ -28,9 +28,6 @@ use format::byte;
 use format::class;
 use format::kind;
 use format::refusal;
-use lexer::integer::Begun;
-use lexer::white;
-use lexer::white::Next;
 
 // White space: nothing but the place changes.
 fn white_item(s: State) -> Answer
@@ -84,14 +81,7 @@ fn step(
     let k = classes[i];
     match k {
         class::WHITE => white_item(s),
-        class::DIGIT => number::integer_item(
-            message,
-            rows,
-            stack,
-            s,
-            Begun::Digits(false, (b - byte::ZERO) as u64),
-        ),
-        class::MINUS => number::integer_item(message, rows, stack, s, Begun::Minus),
+        class::DIGIT | class::MINUS => number::integer_item(message, rows, stack, s, b),
         class::ATOM_QUOTE => text::quoted_item(
             message,
             rows,
@@ -126,7 +116,7 @@ pub(crate) fn run(
     registers: &mut [u32],
 ) -> Decoded
     requires { ⌜ (length (now message) ≤ messageBound) × (registerWords ≤ length (now registers)) ⌝ }
-    requires { ⌜ (now rows ≡ zeroed (now rows)) × (now registers ≡ zeroed (now registers)) ⌝ }
+    requires { ⌜ now registers ≡ zeroed (now registers) ⌝ }
     ensures { λ r. ⌜ leftAs r (now (rows .exit)) ≡ leftBy (now (rows .entry)) (M.run rowValues (limitsOf (tables (now (rows .entry)) (now (stack .entry)) (now (marks .entry)) (now (registers .entry)))) (now (message .entry))) ⌝ }
 {
     let classes = class::classes();
@@ -137,26 +127,19 @@ pub(crate) fn run(
         marks: 0,
     };
     loop {
-        let from = s.at;
-        let q = white::next_byte(message, from);
-        let Next::Byte(b, at) = q else {
-            return Decoded::Refused(refusal::CUT, Offset(message.len()));
-        };
+        let i = s.at.0;
         let next = s.next;
-        let depth = s.depth;
-        let here = State {
-            at,
-            next,
-            depth,
-            marks: s.marks,
-        };
-        let a = step(&classes, message, rows, stack, marks, registers, here, b);
+        if message.len() <= i {
+            return Decoded::Refused(refusal::CUT, Offset(message.len()));
+        }
+        let b = message[i];
+        let a = step(&classes, message, rows, stack, marks, registers, s, b);
         match a {
             Answer::More(after) => {
                 s = after;
             }
             Answer::Done(root) => {
-                return Decoded::Accepted(at.0 + 1, root, next.0);
+                return Decoded::Accepted(i + 1, root, next.0);
             }
             Answer::Refused(number, place) => {
                 return Decoded::Refused(number, place);

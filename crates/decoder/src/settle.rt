@@ -3,8 +3,9 @@ ghost use mathlib.Core.Path.{_≡_};
 ghost use Rattle.decoder.specs.Answers.{tables};
 ghost use Rattle.decoder.specs.Held.{settled};
 use crate::Decoded;
+use format::ROW_WORDS;
 
-// Clears the working memory, and on a refusal the rows too.
+// Clears the working memory, and the row table past the rows used: on a refusal, all of it.
 pub(crate) fn settle(
     rows: &mut [u32],
     stack: &mut [u32],
@@ -17,7 +18,12 @@ pub(crate) fn settle(
     table::clear(stack);
     table::clear(marks);
     table::clear(registers);
-    if let Decoded::Refused(_, _) = answer {
-        table::clear(rows);
+    match answer {
+        Decoded::Refused(_, _) => {
+            table::clear(rows);
+        }
+        Decoded::Accepted(_, _, used) => {
+            table::clear_from(rows, (used as usize) * ROW_WORDS);
+        }
     }
 }

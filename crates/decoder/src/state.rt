@@ -35,8 +35,15 @@ pub(crate) fn top(stack: &[u32], depth: Depth) -> Row
     requires { ⌜ (0 < depth .0) × (depth .0 ≤ length (now stack)) ⌝ }
     ensures { λ r. ⌜ r .0 ≡ getD (now (stack .entry)) (depth .0 - 1) 0 ⌝ }
 {
-    let i = (depth.0 - 1) as usize;
+    let i = depth.0 - 1;
     Row(stack[i])
+}
+
+// The depth that a mark notes.
+fn depth_of(mark: u32) -> Depth
+    ensures { λ r. ⌜ r .0 ≡ mark ⌝ }
+{
+    Depth(mark as usize)
 }
 
 // The depth above which every pop must lie: the mark noted last, or 0.
@@ -48,5 +55,5 @@ pub(crate) fn base(marks: &[u32], noted: u32) -> Depth
         return Depth(0);
     }
     let i = (noted - 1) as usize;
-    Depth(marks[i])
+    depth_of(marks[i])
 }

@@ -3,7 +3,7 @@ ghost use mathlib.Core.Path.{_≡_};
 ghost use mathlib.Core.List.{List};
 ghost use Prim.Native.Nat.{ℕ, _≤_, _<_};
 ghost use lib.ListN.{length};
-ghost use Rattle.format.specs.Bound.{messageBound};
+ghost use Rattle.format.specs.Bound.{messageBound, stackBound};
 ghost use Rattle.format.specs.Lex.{openItem, closeItem};
 ghost use Rattle.decoder.specs.Answers.{tables};
 ghost use Rattle.decoder.specs.Held.{Ready, turn, taken};
@@ -19,18 +19,20 @@ use format::refusal;
 // `{`: notes the depth.
 pub(crate) fn open_item(marks: &mut [u32], s: State) -> Answer
     requires { ⌜ s .at .0 < messageBound ⌝ }
+    requires { ⌜ s .depth .0 ≤ stackBound ⌝ }
     ensures { λ r. ⌜ ((rows stack registers rest : List ℕ) → Ready (tables rows stack (now (marks .entry)) registers) s → turn r (tables rows stack (now (marks .exit)) registers) ≡ taken (tables rows stack (now (marks .entry)) registers) s rest openItem) ⌝ }
 {
     let at = s.at;
     let p = at.0;
     let next = s.next;
     let depth = s.depth;
+    let d = depth.0;
     let noted = s.marks;
     let i = noted as usize;
     if state::room(marks.len(), bound::MARKS) <= i {
         return Answer::Refused(refusal::NO_MARKS, at);
     }
-    marks[i] = depth.0;
+    marks[i] = d as u32;
     Answer::More(State {
         at: Offset(p + 1),
         next,
@@ -60,16 +62,15 @@ pub(crate) fn close_item(rows: &mut [u32], stack: &mut [u32], marks: &[u32], s: 
         return Answer::Refused(refusal::UNDER_MARK, at);
     }
     let fields = depth.0 - low;
-    if table::row_room(rows) <= (next.0 as usize) + (fields as usize) {
+    if table::row_room(rows) <= (next.0 as usize) + fields {
         return Answer::Refused(refusal::NO_ROWS, at);
     }
-    let i = low as usize;
-    if state::room(stack.len(), bound::STACK) <= i {
+    if state::room(stack.len(), bound::STACK) <= low {
         return Answer::Refused(refusal::NO_STACK, at);
     }
-    let last = next.0 + fields;
+    let last = next.0 + (fields as u32);
     table::store_tuple(rows, stack, base, depth, next);
-    stack[i] = last;
+    stack[low] = last;
     Answer::More(State {
         at: Offset(p + 1),
         next: Row(last + 1),

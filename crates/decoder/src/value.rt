@@ -29,8 +29,7 @@ pub(crate) fn push_value(
     let at = s.at;
     let next = s.next;
     let n = next.0;
-    let d = below.0;
-    let i = d as usize;
+    let i = below.0;
     if table::row_room(rows) <= n as usize {
         return Answer::Refused(refusal::NO_ROWS, at);
     }
@@ -42,7 +41,7 @@ pub(crate) fn push_value(
     Answer::More(State {
         at: end,
         next: Row(n + 1),
-        depth: Depth(d + 1),
+        depth: Depth(i + 1),
         marks: s.marks,
     })
 }

@@ -27,7 +27,7 @@ root-term lim message consumed res e =
     ap acceptedValue (accepted-free termValues lim message consumed _ (sym (same-answer message lim) ∙ ap (inTerms message) e))
 
 -- rows lie in their words: they are found there again, whatever follows
-rows-back : (rows : List Row) (rest : List ℕ) → rowsOf (length rows) (wordsOf rows ++ rest) ≡ rows
+pub rows-back : (rows : List Row) (rest : List ℕ) → rowsOf (length rows) (wordsOf rows ++ rest) ≡ rows
 unfolding rowsOf wordsOf
 rows-back [] rest = refl
 rows-back (r ∷ rows) rest = ap (λ (rs : List Row). r ∷ rs) (rows-back rows rest)

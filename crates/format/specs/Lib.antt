@@ -3,6 +3,7 @@
 -- 'Bytes and items'
 pub mod Byte
 pub mod Lex
+pub mod Plain
 -- 'The machine', and from 'Refusal numbers' the order within each item
 pub mod Machine
 pub mod Term

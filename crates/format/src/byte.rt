@@ -41,3 +41,8 @@ pub const LEFT_BRACE: u8 = 123;
 pub const RIGHT_BRACE: u8 = 125;
 
 pub const DOLLAR: u8 = 36;
+
+// What pops into a register, and what has no meaning.
+pub const GREATER: u8 = 62;
+
+pub const COMMA: u8 = 44;

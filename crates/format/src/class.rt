@@ -1,4 +1,5 @@
 //! The class of each byte (01, 'Bytes and items').
+ghost use mathlib.Core.Bool.{_||_, not};
 ghost use mathlib.Core.Path.{_≡_};
 ghost use Prim.Native.Nat.{ℕ, _<_};
 ghost use lib.ListN.{getD};
@@ -299,14 +300,6 @@ const CLASSES: [u8; 256] = [
     REGISTER,
 ];
 
-// The class of a byte.
-pub fn class_of(b: u8) -> u8
-    ensures { λ r. ⌜ r ≡ classCode (classOf b) ⌝ }
-{
-    let i = b as usize;
-    CLASSES[i]
-}
-
 // The whole table, for a loop that looks up a class for each item: an index into the constant writes the table out anew.
 pub fn classes() -> [u8; 256]
     ensures { λ r. ⌜ ((b : ℕ) → b < 256 → getD r b 0 ≡ classCode (classOf b)) ⌝ }
@@ -314,8 +307,8 @@ pub fn classes() -> [u8; 256]
     CLASSES
 }
 
-// Whether a byte is white, by comparisons: for loops over single bytes.
-pub fn is_white(b: u8) -> bool
+// Whether a byte is white, by comparisons.
+fn is_white(b: u8) -> bool
     ensures { λ r. ⌜ r ≡ hasClass B.white b ⌝ }
 {
     if b == byte::BLANK {
@@ -330,7 +323,7 @@ pub fn is_white(b: u8) -> bool
     b == byte::RETURN
 }
 
-// Whether a byte is a digit, by comparisons.
+// Whether a byte is a digit, by comparisons: for loops over single bytes.
 pub fn is_digit(b: u8) -> bool
     ensures { λ r. ⌜ r ≡ hasClass B.digit b ⌝ }
 {
@@ -338,4 +331,42 @@ pub fn is_digit(b: u8) -> bool
         return false;
     }
     b <= byte::NINE
+}
+
+// Whether a byte is an operator, a quote or the comma, by comparisons.
+fn is_operator(b: u8) -> bool
+    ensures { λ r. ⌜ r ≡ not (hasClass B.white b || hasClass B.digit b || hasClass B.register b) ⌝ }
+{
+    if b <= byte::ATOM_QUOTE {
+        return byte::STRING_QUOTE <= b;
+    }
+    if b <= byte::MINUS {
+        return byte::COMMA <= b;
+    }
+    if b <= byte::GREATER {
+        return b == byte::GREATER;
+    }
+    if b <= byte::TAG_QUOTE {
+        return b == byte::TAG_QUOTE;
+    }
+    if b <= byte::LEFT_BRACE {
+        return b == byte::LEFT_BRACE;
+    }
+    if b < byte::RIGHT_BRACE {
+        return false;
+    }
+    b <= byte::TILDE
+}
+
+// Whether a byte names a register, by comparisons.
+pub fn is_register(b: u8) -> bool
+    ensures { λ r. ⌜ r ≡ hasClass B.register b ⌝ }
+{
+    if is_white(b) {
+        return false;
+    }
+    if is_digit(b) {
+        return false;
+    }
+    !is_operator(b)
 }

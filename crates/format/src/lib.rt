@@ -4,6 +4,7 @@ pub mod bound;
 pub mod byte;
 pub mod class;
 pub mod kind;
+pub mod plain;
 pub mod refusal;
 
 // The number of a row in a row table.
@@ -13,7 +14,7 @@ pub struct Row(pub u32);
 pub struct Offset(pub usize);
 
 // A stack depth: how many values lie below.
-pub struct Depth(pub u32);
+pub struct Depth(pub usize);
 
 // Words of a row.
 pub const ROW_WORDS: usize = 4;

@@ -2,8 +2,7 @@
 
 -- the byte there, its class, and the range of digits
 pub mod Bytes
--- white space, registers, quoted text
-pub mod Spaces
+-- registers, quoted text
 pub mod Registers
 pub mod Scans
 -- integers: the run of digits, its sign and range, both together

@@ -1,4 +1,4 @@
--- Quoted text looked through from `start` on: what one byte does, at the place i of a message.
+-- Quoted text looked through from `start` on: what one byte does, and a run of plain bytes, at the place i of a message.
 use Prim.Native.Nat.{ℕ, suc, _+_, _-_, _≤_, _<_}
 use Prim.Native.Char.{code}
 use mathlib.Core.Path.{_≡_, refl, sym, _∙_}
@@ -9,6 +9,8 @@ use lib.ListN.{length, drop, getD, drop-of-length-le}
 use lib.Dec.{eqb}
 use borrow.Author.Tests.{eq-eqb, ne-eqb}
 use Rattle.format.specs.Lex.{scan}
+use Rattle.format.specs.Plain.{isMark, plainEnd}
+use Rattle.format.proofs.PlainRuns.{no-quote, no-backslash, is-backslash, along, within, plain, stops}
 use Rattle.lexer.specs.declared.quoted.Quoted.{Quoted}
 use Rattle.lexer.specs.declared.quoted.Quoted.the-variants.{Closed, Stray, Ended}
 use Rattle.lexer.specs.Quoted.{escapedAfter, scanned, quotedFrom}
@@ -59,12 +61,36 @@ module _ (quote start : ℕ) (message : List ℕ) where
       pub escaped-quote : held ≡ true → getD message i 0 ≡ quote → Looking escaped (i + 1) false
       escaped-quote e b = escapes e (rw (eq-eqb _ _ b, or-true))
 
-      pub closes : held ≡ false → getD message i 0 ≡ quote → Closed (i - start) (record { 0 = i + 1 }) ≡ quotedFrom quote escaped start (drop start message)
+      closes : held ≡ false → getD message i 0 ≡ quote → Closed (i - start) (record { 0 = i + 1 }) ≡ quotedFrom quote escaped start (drop start message)
       unfolding scan scanned
       closes e b =
           let k : suc (start + (i - start)) ≡ i + 1 = omega (arith, l .past) in
           rw (e, byte-at message i h, eq-eqb _ _ b, scan, k) at (l .left)
 
-      pub passes : held ≡ false → (getD message i 0 ≡ quote → ⊥) → Looking escaped (i + 1) (eqb (getD message i 0) 92)
+      passes : held ≡ false → (getD message i 0 ≡ quote → ⊥) → Looking escaped (i + 1) (eqb (getD message i 0) 92)
       unfolding scan escapedAfter
       passes e n = next _ (rw (e, byte-at message i h, ne-eqb _ _ n, scan, escapedAfter, next-count start i (l .past)))
+
+      passes-plain : held ≡ false → isMark quote (getD message i 0) ≡ false → Looking escaped (i + 1) false
+      passes-plain e m = rw (ne-eqb _ _ (no-backslash quote _ m)) at (passes e (no-quote quote _ m))
+
+      passes-backslash : held ≡ false → isMark quote (getD message i 0) ≡ true → (getD message i 0 ≡ quote → ⊥) → Looking escaped (i + 1) true
+      passes-backslash e m n = rw (eq-eqb _ _ (is-backslash quote _ m n)) at (passes e n)
+
+  -- the end p of the plain bytes at i
+  module _ {escaped : Bool} {i : ℕ} {held : Bool} (l : Looking escaped i held) (shut : held ≡ false) (h : i < length message) {p : ℕ} (e : p ≡ plainEnd quote message i (length message)) where
+    at-end : Looking escaped p false
+    at-end =
+        let m = within quote message i (length message) (omega arith) (omega arith) in
+        let run = plain quote message i (length message) (omega arith) (omega arith) in
+        rw e (along quote message run (λ k. Looking escaped k false) (rw shut at l) (λ k b n passed. passes-plain passed (omega (arith, m)) refl n))
+
+    pub run-ends : length message ≤ p → Ended false ≡ quotedFrom quote escaped start (drop start message)
+    run-ends = ends at-end
+
+    module _ (b : p < length message) where
+      pub run-closes : getD message p 0 ≡ quote → Closed (p - start) (record { 0 = p + 1 }) ≡ quotedFrom quote escaped start (drop start message)
+      run-closes = closes at-end b refl
+
+      pub run-opens : (getD message p 0 ≡ quote → ⊥) → Looking escaped (p + 1) true
+      run-opens = passes-backslash at-end b refl (rw e (stops quote message i (length message) (omega arith) (omega arith) (rw e at b)))

@@ -12,6 +12,10 @@ use Rattle.lexer.specs.declared.integer.Integer.{Integer}
 use Rattle.lexer.specs.declared.integer.Integer.the-variants.{Value, OutOfRange, Ended}
 use Rattle.lexer.specs.Integer.{magnitudeCap, withSign, valueAfter}
 
+-- a value that no digit more brings near the largest magnitude
+abbrev pub small : ℕ
+small = 2000000000
+
 -- a run of digits from p on, its value at most the cap; at the slice's end they are worth `last`
 unfoldable pub digitRun : ℕ → ℕ → L.Digits → Digits
 digitRun p last L.unfinished = Digits.Ended (min last magnitudeCap)

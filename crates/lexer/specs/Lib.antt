@@ -1,5 +1,4 @@
 -- What each reader answers, from the bytes r that stand at the offset p.
-pub mod White
 pub mod Quoted
 pub mod Register
 pub mod Integer

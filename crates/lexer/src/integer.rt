@@ -1,9 +1,11 @@
 //! An integer: its sign and its digits.
 ghost use mathlib.Core.Path.{_≡_};
-ghost use Prim.Native.Nat.{_+_, _*_, _<_, min};
+ghost use Prim.Native.Nat.{_+_, _*_, _≤_, _<_, min};
+ghost use mathlib.Core.Bool.{false};
 ghost use lib.ListN.{drop};
 ghost use Rattle.lexer.specs.Integer.{magnitudeCap, integerFrom};
-ghost use Rattle.lexer.specs.Digits.{digitsFrom, signedFrom};
+ghost use Rattle.lexer.specs.Digits.{small, digitsFrom, signedFrom};
+ghost use Rattle.lexer.specs.declared.integer.Begun.the-variants as Begun;
 use format::Offset;
 use format::byte;
 use format::class;
@@ -36,6 +38,9 @@ const CAP: u64 = 9223372036854775809;
 
 // The largest value that a digit can follow within the cap.
 const LARGEST_SHIFTED: u64 = 922337203685477580;
+
+// A value so small that it is not near the cap with a digit more.
+const SMALL: u64 = 2000000000;
 
 // A value, at most the cap.
 fn capped(v: u64) -> u64
@@ -98,12 +103,56 @@ fn signed(digits: Digits, negative: bool) -> Integer
     }
 }
 
+// Reads digits on from `from`, however many, after a sign and digits worth `v`.
+fn read_long(message: &[u8], from: Offset, negative: bool, v: u64) -> Integer
+    ensures { λ r. ⌜ r ≡ integerFrom (Begun.Digits negative v) (from .0) (drop (from .0) (now (message .entry))) ⌝ }
+{
+    signed(read_digits(message, from, v), negative)
+}
+
+// Reads digits on from `from`, with no sign before them. While their value is small, no digit can bring it out of range.
+fn read_short(message: &[u8], from: Offset, v: u64) -> Integer
+    requires { ⌜ v ≤ small ⌝ }
+    ensures { λ r. ⌜ r ≡ integerFrom (Begun.Digits false v) (from .0) (drop (from .0) (now (message .entry))) ⌝ }
+{
+    let mut i = from.0;
+    let mut value = v;
+    while i < message.len() {
+        let b = message[i];
+        let next = i + 1;
+        if !class::is_digit(b) {
+            return Integer::Value(value, Offset(i));
+        }
+        value = value * 10 + ((b - byte::ZERO) as u64);
+        i = next;
+        if SMALL < value {
+            return read_long(message, Offset(i), false, value);
+        }
+    }
+    Integer::Ended(Begun::Digits(false, value))
+}
+
+// Reads on from `from`, after digits that have no sign before them.
+fn read_natural(message: &[u8], from: Offset, v: u64) -> Integer
+    ensures { λ r. ⌜ r ≡ integerFrom (Begun.Digits false v) (from .0) (drop (from .0) (now (message .entry))) ⌝ }
+{
+    if SMALL < v {
+        return read_long(message, from, false, v);
+    }
+    read_short(message, from, v)
+}
+
 // Reads on from `from`; after a minus a digit has to come.
 pub fn read_integer(message: &[u8], from: Offset, begun: Begun) -> Integer
     ensures { λ r. ⌜ r ≡ integerFrom begun (from .0) (drop (from .0) (now (message .entry))) ⌝ }
 {
     match begun {
-        Begun::Digits(negative, v) => signed(read_digits(message, from, v), negative),
+        Begun::Digits(negative, v) => {
+            if negative {
+                return read_long(message, from, true, v);
+            }
+            read_natural(message, from, v)
+        }
         Begun::Minus => {
             let i = from.0;
             if message.len() <= i {
@@ -113,10 +162,7 @@ pub fn read_integer(message: &[u8], from: Offset, begun: Begun) -> Integer
             if !class::is_digit(b) {
                 return Integer::Stray(from);
             }
-            signed(
-                read_digits(message, Offset(i + 1), (b - byte::ZERO) as u64),
-                true,
-            )
+            read_long(message, Offset(i + 1), true, (b - byte::ZERO) as u64)
         }
     }
 }

@@ -4,4 +4,3 @@
 pub mod integer;
 pub mod quoted;
 pub mod register;
-pub mod white;

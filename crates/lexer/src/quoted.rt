@@ -4,6 +4,7 @@ ghost use lib.ListN.{drop};
 ghost use Rattle.lexer.specs.Quoted.{quotedFrom};
 use format::Offset;
 use format::byte;
+use format::plain;
 
 // How many bytes were read before the closing quote, with the place after it; a byte not allowed there; or the slice's end,
 // and whether a backslash is the last byte read.
@@ -21,22 +22,27 @@ pub fn read_quoted(message: &[u8], from: Offset, quote: u8, escaped: bool) -> Qu
     let mut i = start;
     let mut open = escaped;
     while i < message.len() {
-        let b = message[i];
-        let next = i + 1;
         if open {
+            let b = message[i];
             if b != byte::BACKSLASH {
                 if b != quote {
                     return Quoted::Stray(Offset(i));
                 }
             }
             open = false;
+            i += 1;
         } else {
-            if b == quote {
-                return Quoted::Closed(i - start, Offset(next));
+            let p = plain::plain_end(message, i, message.len(), quote);
+            if message.len() <= p {
+                return Quoted::Ended(false);
             }
-            open = b == byte::BACKSLASH;
+            let next = p + 1;
+            if message[p] == quote {
+                return Quoted::Closed(p - start, Offset(next));
+            }
+            open = true;
+            i = next;
         }
-        i = next;
     }
     Quoted::Ended(open)
 }

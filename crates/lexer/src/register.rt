@@ -21,7 +21,7 @@ pub fn read_register(message: &[u8], from: Offset) -> Register
         return Register::Ended;
     }
     let b = message[i];
-    if class::class_of(b) != class::REGISTER {
+    if !class::is_register(b) {
         return Register::Stray(from);
     }
     Register::Named(b, Offset(i + 1))

@@ -8,9 +8,9 @@ use native.Mathlib.Omega.{arith}
 use lib.ListN.{length, getD, take, drop, drop-of-length-le}
 use lib.Seq.{take-suc, drop-cons, getD-take, length-take-le}
 use lib.Dec.{T, eqb}
-use Rattle.format.specs.Rows.{Row, row, rowAt, rowsOf, rowRoom}
+use Rattle.format.specs.Rows.{Row, row, consKind, fieldKind, rowAt, rowsOf, rowRoom}
 use Rattle.format.specs.Sound.{soundRow, soundRest, soundAfter, soundRows}
-use Rattle.format.proofs.TableRows.{length-rows, rest-kind}
+use Rattle.format.proofs.TableRows.{length-rows, cons-earlier, field-earlier, rest-kind}
 use Rattle.format.proofs.Tests.{None, is-none}
 use Rattle.table.specs.Words.{rowIn}
 use Rattle.table.proofs.Rows.{row-of}
@@ -50,16 +50,22 @@ module _ (message words : List ℕ) (used : ℕ) where
     pub row-fails : soundRow message i r ≡ false → from i ≡ false
     row-fails e = rw (row-at, e)
 
-    -- the row read for the rest
-    module _ (sound : soundRow message i r ≡ true) (x : Row) (read : x ≡ rowIn words (r .second)) where
-      rest-at : from i ≡ (soundRest (r .kind) (x .kind) && from (i + 1))
+    module _ (sound : soundRow message i r ≡ true) where
+      -- a rest is a row before, and so has room
+      pub cons-room : r .kind ≡ consKind → r .second < rowRoom words
+      cons-room k = omega (arith, cons-earlier message i r (subst T (sym sound) tt) k .1)
+
+      pub field-room : r .kind ≡ fieldKind → r .second < rowRoom words
+      field-room k = omega (arith, field-earlier message i r (subst T (sym sound) tt) k .1)
+
+      rest-at : from i ≡ (soundRest (r .kind) (rowIn words (r .second) .kind) && from (i + 1))
       unfolding rowAt
       rest-at =
-          let e : r .second < i → rowAt (take i rows) (r .second) ≡ x = λ l. getD-take i rows (r .second) (row 0 0 0 0) l ∙ sym (read ∙ row-of words used (r .second) fits (omega arith)) in
+          let e : r .second < i → rowAt (take i rows) (r .second) ≡ rowIn words (r .second) = λ l. getD-take i rows (r .second) (row 0 0 0 0) l ∙ sym (row-of words used (r .second) fits (omega arith)) in
           row-at ∙ rw (sound, rest-kind message i r (subst T (sym sound) tt) _ _ (λ l. ap (λ (y : Row). y .kind) (e l)))
 
-      pub rest-fails : soundRest (r .kind) (x .kind) ≡ false → from i ≡ false
+      pub rest-fails : soundRest (r .kind) (rowIn words (r .second) .kind) ≡ false → from i ≡ false
       rest-fails e = rw (rest-at, e)
 
-      pub passes : soundRest (r .kind) (x .kind) ≡ true → from i ≡ from (i + 1)
+      pub passes : soundRest (r .kind) (rowIn words (r .second) .kind) ≡ true → from i ≡ from (i + 1)
       passes e = rw (rest-at, e)

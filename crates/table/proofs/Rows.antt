@@ -1,18 +1,13 @@
--- Rows that lie at the head of a table with zeros past them, and the values of a stack: how they change as rows are stored and
--- values are pushed.
+-- Rows read and stored in the words of a table, and the values of a stack: how they change as rows are stored and values are pushed.
 use Prim.Native.Nat.{ℕ, zero, suc, _+_, _*_, _-_, _≤_, _<_}
-use mathlib.Core.Path.{_≡_, refl, ap, sym, _∙_}
-use mathlib.Core.Bool.{Bool, true, false}
+use mathlib.Core.Path.{_≡_, refl, ap, _∙_}
 use mathlib.Core.List.{List, [], _∷_, _++_, reverse, append-assoc, reverseAux-eq, reverse-reverse}
-use native.Mathlib.Nat.{add-zero, add-suc, suc-add, sub-zero, zero-sub, suc-sub-suc, le-refl}
+use native.Mathlib.Nat.{add-zero, add-suc, suc-add, sub-zero, suc-sub-suc, le-refl}
 use native.Mathlib.Omega.{arith}
-use lib.ListN.{length, drop, getD, set, replicate, length-append, length-replicate, length-reverse, List·getD-eq-default}
-use lib.Seq.{sets, sets-eq, take-append-seam, drop-append-add, getD-drop, getD-set-same, getD-set-other}
-use lib.Dec.{ltb}
-use borrow.Author.Tests.{le-leb, lt-leb, lt-ltb, le-ltb, ltb-true, ltb-false}
+use lib.ListN.{length, drop, getD, set, replicate, length-append, length-reverse}
+use lib.Seq.{sets, getD-drop, getD-set-same, getD-set-other}
+use borrow.Author.Tests.{le-leb, lt-leb, lt-ltb, le-ltb}
 use Rattle.format.specs.Rows.{Row, row, rowWords, wordsOf, rowsOf, rowRoom, rowAt, fieldRow, add, addTuple}
-use Rattle.format.specs.Answer.{rowsIn}
-use Rattle.format.proofs.Decoded.{words-length, rows-length}
 use Rattle.table.specs.Words.{rowIn, storedRows, lastFirst, fieldRows, tupleRows}
 
 abbrev zeros : ℕ → List ℕ
@@ -40,64 +35,15 @@ module _ (words : List ℕ) (n : ℕ) where
     unfolding storedRows
     not-stored h = simp (lt-leb _ _ h)
 
-words-append : (mem rows : List Row) → wordsOf (mem ++ rows) ≡ wordsOf mem ++ wordsOf rows
+pub words-append : (mem rows : List Row) → wordsOf (mem ++ rows) ≡ wordsOf mem ++ wordsOf rows
 unfolding wordsOf
 words-append [] rows = refl
 words-append (r ∷ mem) rows = rw (words-append mem rows)
-
-drop-zeros : (k n : ℕ) → drop k (zeros n) ≡ zeros (n - k)
-drop-zeros zero n = rw sub-zero
-drop-zeros (suc k) zero = rw zero-sub
-drop-zeros (suc k) (suc n) = rw suc-sub-suc (drop-zeros k n)
-
--- words stored where the zeros begin
-sets-zeros : (front vs : List ℕ) (n : ℕ) → length vs ≤ n → sets (front ++ zeros n) (length front) vs ≡ front ++ vs ++ zeros (n - length vs)
-sets-zeros front vs n h =
-    sets-eq vs (front ++ zeros n) (length front) (simp (length-append, length-replicate) (omega arith))
-    ∙ rw (take-append-seam, drop-append-add, drop-zeros)
-
-module _ (words : List ℕ) (mem : List Row) where
-  same-room : length mem ≤ rowRoom words → rowRoom (rowsIn words mem) ≡ rowRoom words
-  unfolding rowRoom
-  same-room h = rw (rows-length words mem h)
-
-  sets-after : (rows : List Row) → length mem + length rows ≤ rowRoom words → sets (rowsIn words mem) (length mem * rowWords) (wordsOf rows) ≡ rowsIn words (mem ++ rows)
-  unfolding rowsIn rowRoom
-  sets-after rows h =
-      let i : length mem * rowWords ≡ length (wordsOf mem) = omega (arith, words-length mem) in
-      let n : (length words - length (wordsOf mem)) - length (wordsOf rows) ≡ length words - (length (wordsOf mem) + length (wordsOf rows)) = omega arith in
-      rw (i, words-append, length-append, ← n) (sets-zeros (wordsOf mem) (wordsOf rows) _ (omega (arith, words-length mem, words-length rows)))
-
-  -- rows stored after those that lie there
-  pub stored-after : (rows : List Row) → length mem + length rows ≤ rowRoom words → storedRows (rowsIn words mem) (length mem) rows ≡ rowsIn words (mem ++ rows)
-  stored-after rows h =
-      let room : length mem + length rows ≤ rowRoom (rowsIn words mem) = rw (same-room (omega arith)) h in
-      stored (rowsIn words mem) (length mem) rows room ∙ sets-after rows h
 
 pub getD-zeros : (n i : ℕ) → getD (zeros n) i 0 ≡ 0
 getD-zeros zero i = refl
 getD-zeros (suc n) zero = refl
 getD-zeros (suc n) (suc i) = getD-zeros n i
-
-row-words : (mem : List Row) (n v : ℕ) → rowFrom (wordsOf mem ++ zeros n) (v * rowWords) ≡ rowAt mem v
-unfolding wordsOf rowAt
-row-words [] n v = simp getD-zeros
-row-words (r ∷ mem) n zero = refl
-row-words (r ∷ mem) n (suc v) =
-    let word : (i : ℕ) → suc v * rowWords + i ≡ suc (suc (suc (suc (v * rowWords + i)))) = λ i. omega arith in
-    let first : suc v * rowWords ≡ suc (suc (suc (suc (v * rowWords)))) = omega arith in
-    rw (word 1, word 2, word 3, first) (row-words mem n v)
-
--- a row that lies there; past them all, zeros
-pub row-in : (words : List ℕ) (mem : List Row) (v : ℕ) → length mem ≤ rowRoom words → rowIn (rowsIn words mem) v ≡ rowAt mem v
-unfolding rowsIn rowAt
-row-in words mem v h = cases (ltb v (rowRoom words)) refl
-  where
-    cases : (b : Bool) → ltb v (rowRoom words) ≡ b → rowIn (rowsIn words mem) v ≡ rowAt mem v
-    cases true e = row-inside (rowsIn words mem) v (rw (same-room words mem h) (ltb-true _ _ e)) ∙ row-words mem (length words - length (wordsOf mem)) v
-    cases false e =
-        let past = ltb-false v (rowRoom words) e in
-        row-outside (rowsIn words mem) v (rw (same-room words mem h) past) ∙ sym (List·getD-eq-default mem (row 0 0 0 0) (omega arith))
 
 rows-at : (used : ℕ) (words : List ℕ) (i : ℕ) → i < used → rowFrom words (i * rowWords) ≡ rowAt (rowsOf used words) i
 unfolding rowsOf rowAt

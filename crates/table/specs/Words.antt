@@ -1,8 +1,8 @@
 -- The words of tables: rows stored and read in them, and the values of a stack.
 use Prim.Native.Nat.{ℕ, zero, suc, _+_, _*_, _-_}
 use mathlib.Core.Bool.{_&&_, cond}
-use mathlib.Core.List.{List, [], _∷_}
-use lib.ListN.{length, take, getD}
+use mathlib.Core.List.{List, [], _∷_, _++_}
+use lib.ListN.{length, take, getD, replicate}
 use lib.Seq.{sets}
 use lib.Dec.{leb, ltb}
 use Rattle.format.specs.Rows.{Row, row, rowWords, wordsOf, rowRoom, endRow, fieldRow}
@@ -21,6 +21,10 @@ unfoldable pub rowIn : List ℕ → ℕ → Row
 rowIn words n =
     let word : ℕ → ℕ = λ i. getD words (n * rowWords + i) 0 in
     cond (ltb n (rowRoom words)) (row (word 0) (word 1) (word 2) (word 3)) (row 0 0 0 0)
+
+-- zeros from word n on
+unfoldable pub clearedFrom : ℕ → List ℕ → List ℕ
+clearedFrom n words = take n words ++ replicate (length words - n) 0
 
 -- the first n words, the last of them first: a stack's values, top first
 unfoldable pub lastFirst : List ℕ → ℕ → List ℕ

@@ -7,7 +7,7 @@ ghost use lib.ListN.{length};
 ghost use lib.Seq.{sets};
 ghost use Rattle.format.specs.Answer.{zeroed};
 ghost use Rattle.format.specs.Rows.{rowWords, wordsOf, rowRoom};
-ghost use Rattle.table.specs.Words.{rowOf, rowIn, storedRows, between, fieldRows, storedTuple};
+ghost use Rattle.table.specs.Words.{rowOf, rowIn, storedRows, between, fieldRows, storedTuple, clearedFrom};
 use format::Depth;
 use format::ROW_WORDS;
 use format::Row;
@@ -63,12 +63,25 @@ pub fn store_row(rows: &mut [u32], n: Row, words: RowWords)
     }
 }
 
+// Reads row n, which the table has room for.
+fn read_row(rows: &[u32], n: Row) -> RowWords
+    requires { ⌜ n .0 < rowRoom (now rows) ⌝ }
+    ensures { λ r. ⌜ rowOf r ≡ rowIn (now (rows .entry)) (n .0) ⌝ }
+{
+    let at = (n.0 as usize) * ROW_WORDS;
+    RowWords {
+        kind: rows[at],
+        first: rows[at + 1],
+        second: rows[at + 2],
+        third: rows[at + 3],
+    }
+}
+
 // Reads row n.
 pub fn load_row(rows: &[u32], n: Row) -> RowWords
     ensures { λ r. ⌜ rowOf r ≡ rowIn (now (rows .entry)) (n .0) ⌝ }
 {
-    let i = n.0 as usize;
-    if row_room(rows) <= i {
+    if row_room(rows) <= n.0 as usize {
         return RowWords {
             kind: 0,
             first: 0,
@@ -76,13 +89,7 @@ pub fn load_row(rows: &[u32], n: Row) -> RowWords
             third: 0,
         };
     }
-    let at = i * ROW_WORDS;
-    RowWords {
-        kind: rows[at],
-        first: rows[at + 1],
-        second: rows[at + 2],
-        third: rows[at + 3],
-    }
+    read_row(rows, n)
 }
 
 // Stores the fields of a tuple from the last to the first, after its end, row `end`.
@@ -96,7 +103,7 @@ fn put_fields(rows: &mut [u32], stack: &[u32], base: Depth, depth: Depth, end: R
     while low < high {
         let below = high - 1;
         let n = rest + 1;
-        let field = stack[below as usize];
+        let field = stack[below];
         put(
             rows,
             (n as usize) * ROW_WORDS,
@@ -123,10 +130,10 @@ pub fn store_tuple(rows: &mut [u32], stack: &[u32], base: Depth, depth: Depth, n
     if high < low {
         return;
     }
-    if stack.len() < high as usize {
+    if stack.len() < high {
         return;
     }
-    if row_room(rows) <= i + ((high - low) as usize) {
+    if row_room(rows) <= i + (high - low) {
         return;
     }
     put(
@@ -150,5 +157,14 @@ pub fn clear(words: &mut [u32])
     while i < words.len() {
         words[i] = 0;
         i += 1;
+    }
+}
+
+// Fills a table with zeros from word `from` on.
+pub fn clear_from(words: &mut [u32], from: usize)
+    ensures { λ r. ⌜ now (words .exit) ≡ clearedFrom from (now (words .entry)) ⌝ }
+{
+    if from < words.len() {
+        clear(&mut words[from..]);
     }
 }

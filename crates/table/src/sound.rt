@@ -2,18 +2,20 @@
 ghost use mathlib.Core.Bool.{true, false, _&&_};
 ghost use mathlib.Core.List.{[], _∷_};
 ghost use mathlib.Core.Path.{_≡_};
-ghost use Prim.Native.Nat.{_-_, _≤_};
+ghost use Prim.Native.Nat.{_-_, _≤_, _<_};
 ghost use lib.Dec.{eqb, ltb};
 ghost use lib.ListN.{length};
-ghost use Rattle.format.specs.Rows.{isListKind, isTupleKind, spanOf, rowsOf, rowRoom};
+ghost use Rattle.format.specs.Rows.{consKind, fieldKind, isListKind, isTupleKind, spanOf, rowsOf, rowRoom};
 ghost use Rattle.format.specs.Sound.{spelled, inSlice, spelledIn, countFits, rootAmong, soundRow, soundRest, soundRows, soundTable};
-ghost use Rattle.table.specs.Words.{rowOf};
+ghost use Rattle.table.specs.Words.{rowOf, rowIn};
 use crate::RowWords;
-use crate::load_row;
+use crate::read_row;
 use crate::row_room;
+use format::ROW_WORDS;
 use format::Row;
 use format::byte;
 use format::kind;
+use format::plain;
 
 // Whether a span lies inside the slice. Its end is counted in 64 bits, where no sum of two words wraps.
 fn in_slice(message: &[u8], start: u32, n: u32) -> bool
@@ -39,22 +41,21 @@ fn is_spelled(message: &[u8], quote: u8, start: usize, end: usize) -> bool
 {
     let mut i = start;
     while i < end {
-        let b = message[i];
-        let next = i + 1;
-        if b == quote {
+        let p = plain::plain_end_by_blocks(message, i, end, quote);
+        if end <= p {
+            return true;
+        }
+        if message[p] == quote {
             return false;
         }
-        if b == byte::BACKSLASH {
-            if end <= next {
-                return false;
-            }
-            if !may_follow(message[next], quote) {
-                return false;
-            }
-            i = next + 1;
-        } else {
-            i = next;
+        let next = p + 1;
+        if end <= next {
+            return false;
         }
+        if !may_follow(message[next], quote) {
+            return false;
+        }
+        i = next + 1;
     }
     true
 }
@@ -173,6 +174,27 @@ pub fn sound_rest(kind: u32, rest: u32) -> bool
     }
 }
 
+// The kind of row n, which the table has room for.
+fn kind_of(rows: &[u32], n: u32) -> u32
+    requires { ⌜ n < rowRoom (now rows) ⌝ }
+    ensures { λ r. ⌜ r ≡ rowIn (now (rows .entry)) n .kind ⌝ }
+{
+    rows[(n as usize) * ROW_WORDS]
+}
+
+// Whether a row may have the rest that it refers to. The rest is read only of a list cell or a tuple's field: its row is then there.
+fn rest_fits(rows: &[u32], words: RowWords) -> bool
+    requires { ⌜ (words .kind ≡ consKind → words .second < rowRoom (now rows)) × (words .kind ≡ fieldKind → words .second < rowRoom (now rows)) ⌝ }
+    ensures { λ r. ⌜ r ≡ soundRest (words .kind) (rowIn (now (rows .entry)) (words .second) .kind) ⌝ }
+{
+    let k = words.kind;
+    match k {
+        kind::CONS => sound_rest(k, kind_of(rows, words.second)),
+        kind::FIELD => sound_rest(k, kind_of(rows, words.second)),
+        _ => true,
+    }
+}
+
 // Whether a table has room for the rows claimed.
 pub fn count_fits(rows: &[u32], used: u32) -> bool
     ensures { λ r. ⌜ r ≡ countFits (now (rows .entry)) used ⌝ }
@@ -187,20 +209,18 @@ pub fn root_among(used: u32, root: Row) -> bool
     root.0 < used
 }
 
-// Whether every row is sound by its own words and by its rest, which is then known to be an earlier row. Of a row that has no rest
-// it does not matter which row is read.
+// Whether every row is sound by its own words and by its rest, which is then known to be an earlier row.
 fn sound_rows(message: &[u8], rows: &[u32], used: u32) -> bool
     requires { ⌜ used ≤ rowRoom (now rows) ⌝ }
     ensures { λ r. ⌜ r ≡ soundRows (now (message .entry)) (rowsOf used (now (rows .entry))) ⌝ }
 {
     let mut i = 0;
     while i < used {
-        let words = load_row(rows, Row(i));
+        let words = read_row(rows, Row(i));
         if !sound_row(message, Row(i), words) {
             return false;
         }
-        let rest = load_row(rows, Row(words.second));
-        if !sound_rest(words.kind, rest.kind) {
+        if !rest_fits(rows, words) {
             return false;
         }
         i += 1;

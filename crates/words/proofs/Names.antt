@@ -21,11 +21,16 @@ use Rattle.words.specs.Known.{noFormat, orderAs, layoutOf, layoutAt, fou
 use Rattle.words.proofs.Joins.{joined-same}
 
 -- the tables of what the names say
-pub tables-at : (widths : List ℕ) (signs : List Bool) (orders : List Order) → widths ≡ map (λ (f : F.Format). f .width) formats → signs ≡ map (λ (f : F.Format). f .signed) formats → orders ≡ map (λ (f : F.Format). orderAs (f .order)) formats
+pub record LayoutTables (widths : List ℕ) (signs : List Bool) (orders : List Order) : Type 0 where
+  pub width : widths ≡ map (λ (f : F.Format). f .width) formats
+  pub sign : signs ≡ map (λ (f : F.Format). f .signed) formats
+  pub order : orders ≡ map (λ (f : F.Format). orderAs (f .order)) formats
+
+pub tables-at : (widths : List ℕ) (signs : List Bool) (orders : List Order) → LayoutTables widths signs orders
     → (i : ℕ) → record { width = getD widths i 0; signed = getD signs i false; order = getD orders i (orderAs big) } ≡ layoutAt i
 unfolding layoutAt layoutOf noFormat
-tables-at widths signs orders w s o i =
-    rw (w, s, o, List·getD-map (λ (f : F.Format). f .width) formats i noFormat, List·getD-map (λ (f : F.Format). f .signed) formats i noFormat, List·getD-map (λ (f : F.Format). orderAs (f .order)) formats i noFormat) refl
+tables-at widths signs orders t i =
+    rw (t .width, t .sign, t .order, List·getD-map (λ (f : F.Format). f .width) formats i noFormat, List·getD-map (λ (f : F.Format). f .signed) formats i noFormat, List·getD-map (λ (f : F.Format). orderAs (f .order)) formats i noFormat) refl
 
 -- a name is found at the head of a list of formats, or it is not the head's
 head-found : (f : F.Format) (fs : List F.Format) (name : List ℕ) → f .name ≡ name → formatIn (f ∷ fs) name ≡ some f

@@ -80,18 +80,6 @@ const ORDERS: [Order; 10] = [
     Order::Little, // i32le
 ];
 
-// What the name at a place of the tables says.
-fn layout_at(i: usize) -> Layout
-    requires { ⌜ i < 10 ⌝ }
-    ensures { λ r. ⌜ r ≡ layoutAt i ⌝ }
-{
-    Layout {
-        width: WIDTHS[i],
-        signed: SIGNED[i],
-        order: ORDERS[i],
-    }
-}
-
 // What the n bytes from `start` on say, as a name.
 pub(crate) fn find(message: &[u8], start: Offset, n: usize) -> Found
     requires { ⌜ start .0 + n ≤ length (now message) ⌝ }
@@ -101,14 +89,22 @@ pub(crate) fn find(message: &[u8], start: Offset, n: usize) -> Found
         return Found::Unknown;
     }
     let name = join(message, start, n, Order::Big);
+    // taken whole, so that at each place of the unrolled loop its entry is known: an index into a constant writes the table out anew
     let names = NAMES;
     let bytes = NAME_BYTES;
+    let widths = WIDTHS;
+    let signs = SIGNED;
+    let orders = ORDERS;
     let mut i = 0;
     while i < KNOWN {
         let next = i + 1;
         if names[i] == name {
             if bytes[i] == n {
-                return Found::Known(layout_at(i));
+                return Found::Known(Layout {
+                    width: widths[i],
+                    signed: signs[i],
+                    order: orders[i],
+                });
             }
         }
         i = next;

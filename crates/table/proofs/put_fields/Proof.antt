@@ -33,9 +33,6 @@ add-n : tie.Need-add-n Inv-loop μ-loop
 unfolding rowRoom
 add-n c = omega arith
 
-cast-field : tie.Need-cast-field Inv-loop μ-loop
-cast-field c = omega arith
-
 mul-field : tie.Need-mul-field Inv-loop μ-loop
 mul-field c = omega arith
 
@@ -87,7 +84,6 @@ put-fields-spec =
     loop-holds
     sub-below
     add-n
-    cast-field
     mul-field
     shared-slice-read-field
     cast-put

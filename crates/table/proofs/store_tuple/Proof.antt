@@ -13,17 +13,11 @@ cast-i c = search needs
 returns : tie.Need-returns
 returns c = sym (laws.tuple-under _ _ _ _ _ (c .if1 .taken))
 
-cast-if2 : tie.Need-cast-if2
-cast-if2 c = search needs
-
 returns-2 : tie.Need-returns-2
 returns-2 c = sym (laws.tuple-past _ _ _ _ _ (c .if2 .taken))
 
 row-room-requires : tie.Need-row-room-requires
 row-room-requires c κs = search needs
-
-cast-if3 : tie.Need-cast-if3
-cast-if3 c = search needs
 
 add-if3 : tie.Need-add-if3
 add-if3 c = search needs
@@ -60,10 +54,8 @@ store-tuple-spec =
     (tie.spec
     cast-i
     returns
-    cast-if2
     returns-2
     row-room-requires
-    cast-if3
     add-if3
     same-length
     returns-3

@@ -25,17 +25,17 @@ shared-slice-read-if2 c = search needs
 returns-2 : tie.Need-returns-2
 returns-2 c mk rg h = refusal _ _ _ (bytes-4 _ _ _ _ (omega arith) (c .before .before .if1 .left) (c .if2 .taken))
 
-sub-t22 : tie.Need-sub-t22
-sub-t22 c = search needs
+sub-t10 : tie.Need-sub-t10
+sub-t10 c = search needs
 
-add-t10 : tie.Need-add-t10
-add-t10 c = search needs
+add-t9 : tie.Need-add-t9
+add-t9 c = search needs
+
+cast-t24 : tie.Need-cast-t24
+cast-t24 c = search needs
 
 cast-t25 : tie.Need-cast-t25
 cast-t25 c = search needs
-
-cast-t26 : tie.Need-cast-t26
-cast-t26 c = search needs
 
 push-value-requires : tie.Need-push-value-requires
 push-value-requires c κs = search needs
@@ -61,10 +61,10 @@ binary-bytes-spec =
     add-end
     shared-slice-read-if2
     returns-2
-    sub-t22
-    add-t10
+    sub-t10
+    add-t9
+    cast-t24
     cast-t25
-    cast-t26
     push-value-requires
     same-length
     same-length-2

@@ -11,6 +11,9 @@ use Rattle.decoder.proofs.number.integer_item.Tie as tie
 add-t11 : tie.Need-add-t11
 add-t11 c = search needs
 
+begun-by-requires : tie.Need-begun-by-requires
+begun-by-requires c κs = search needs
+
 read-integer-requires : tie.Need-read-integer-requires
 read-integer-requires c κs = search needs
 
@@ -23,13 +26,13 @@ no-integer-requires c κs = search needs
 returns : tie.Need-returns
 returns c mk rg _ =
     let read = c .before .before in
-    rw (c .no-integer .ensures) (laws.no-integer (tables _ _ mk rg) _ _ _ _ (rest-ends _ _ (omega arith)) _ (read .read-integer .ensures) (not-value _ (c .before .match .keys2)))
+    rw (c .no-integer .ensures) (laws.no-integer (tables _ _ mk rg) _ _ _ _ (rest-ends _ _ (omega arith)) _ (rw (read .before .begun-by .ensures) at (read .read-integer .ensures)) (not-value _ (c .before .match .keys2)))
 
-cast-t20 : tie.Need-cast-t20
-cast-t20 c = search needs
+cast-t21 : tie.Need-cast-t21
+cast-t21 c = search needs
 
-cast-t22 : tie.Need-cast-t22
-cast-t22 c = search needs
+cast-t23 : tie.Need-cast-t23
+cast-t23 c = search needs
 
 push-value-requires : tie.Need-push-value-requires
 push-value-requires c κs = search needs
@@ -44,7 +47,8 @@ returns-2 : tie.Need-returns-2
 returns-2 c mk rg h =
     let pushed = c .before .before .before .before in
     let at = pushed .before .before .before .before in
-    let i = laws.integer _ _ _ _ _ (sym (at .before .before .read-integer .ensures) ∙ at .q .given .1) in
+    let read = at .before .before in
+    let i = laws.integer _ _ _ _ _ (sym (rw (read .before .begun-by .ensures) at (read .read-integer .ensures)) ∙ at .q .given .1) in
     pushed .push-value .ensures mk rg (i .bytes) h (omega arith) (omega (arith, i .place))
     ∙ laws.integer-made (tables _ _ mk rg) _ _ _ i
 
@@ -53,12 +57,13 @@ integer-item-spec =
     tie.close
     (tie.spec
     add-t11
+    begun-by-requires
     read-integer-requires
     enum-known-q
     no-integer-requires
     returns
-    cast-t20
-    cast-t22
+    cast-t21
+    cast-t23
     push-value-requires
     same-length
     same-length-2

@@ -6,9 +6,6 @@ use borrow.Author.Needs.{needs}
 use Rattle.decoder.proofs.register.push_item.Statement.{statement}
 use Rattle.decoder.proofs.register.push_item.Tie as tie
 
-cast-i : tie.Need-cast-i
-cast-i c = search needs
-
 mul-held : tie.Need-mul-held
 mul-held c = search needs
 
@@ -33,11 +30,11 @@ mul-stack c = search needs
 slice-write-stack : tie.Need-slice-write-stack
 slice-write-stack c = search needs
 
-add-t16 : tie.Need-add-t16
-add-t16 c = search needs
+add-t15 : tie.Need-add-t15
+add-t15 c = search needs
 
-add-t14 : tie.Need-add-t14
-add-t14 c = search needs
+add-t11 : tie.Need-add-t11
+add-t11 c = search needs
 
 same-length : tie.Need-same-length
 same-length c = search needs
@@ -49,7 +46,6 @@ pub push-item-spec : {M : Type 1} → statement M
 push-item-spec =
     tie.close
     (tie.spec
-    cast-i
     mul-held
     shared-slice-read-held
     returns
@@ -58,7 +54,7 @@ push-item-spec =
     sub-stack
     mul-stack
     slice-write-stack
-    add-t16
-    add-t14
+    add-t15
+    add-t11
     same-length
     returns-3)

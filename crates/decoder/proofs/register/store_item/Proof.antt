@@ -62,8 +62,8 @@ mul-registers c = search needs
 slice-write-registers : tie.Need-slice-write-registers
 slice-write-registers c = search needs
 
-sub-t22 : tie.Need-sub-t22
-sub-t22 c = search needs
+sub-t17 : tie.Need-sub-t17
+sub-t17 c = search needs
 
 same-length : tie.Need-same-length
 same-length c = search needs
@@ -93,6 +93,6 @@ store-item-spec =
     add-registers-2
     mul-registers
     slice-write-registers
-    sub-t22
+    sub-t17
     same-length
     returns-4)

@@ -1,9 +1,9 @@
 -- `decoder::run::run` meets its contract: the run from where the loop stands is the whole run.
-use Prim.Native.Nat.{ℕ, suc, _+_, _-_, _≤_, _<_}
-use mathlib.Core.Path.{_≡_, sym, _∙_}
+use Prim.Native.Nat.{ℕ, suc, _+_, _-_, _<_}
+use mathlib.Core.Path.{_≡_, sym}
 use mathlib.Core.List.{_∷_}
 use native.Mathlib.Omega.{arith}
-use lib.ListN.{length, drop}
+use lib.ListN.{length, drop, getD}
 use denote.Ref.{now}
 use borrow.Author.Needs.{needs}
 use Rattle.format.specs.Answer.{Tables, limitsOf, SameLengths}
@@ -11,15 +11,13 @@ use Rattle.format.specs.Machine.{run}
 use Rattle.format.specs.Rows.{rowValues}
 use Rattle.format.specs.declared.Offset.{Offset}
 use Rattle.format.specs.declared.Row.{Row as RowNumber}
-use Rattle.lexer.specs.White.{nextFrom}
-use Rattle.lexer.specs.declared.white.Next.the-variants.{Byte}
 use Rattle.decoder.specs.declared.Decoded.the-variants.{Accepted}
 use Rattle.decoder.specs.declared.Decoded.the-variants as Decoded
 use Rattle.decoder.specs.declared.state.State.{State}
 use Rattle.decoder.specs.declared.state.Answer.the-variants.{More, Done, Refused}
 use Rattle.decoder.specs.Answers.{tables}
 use Rattle.decoder.specs.Held.{leftAs, leftBy}
-use Rattle.decoder.proofs.Loop.{Going, chain, placed, starts, over, byte-inside, byte-here, at-byte, goes-on, done, stopped}
+use Rattle.decoder.proofs.Loop.{Going, chain, starts, over, byte-here, goes-on, done, stopped}
 use Rattle.decoder.proofs.run.run.Statement.{statement}
 use Rattle.decoder.proofs.run.run.Tie as tie
 
@@ -29,20 +27,20 @@ Inv-loop message rows₀ stack₀ marks₀ registers₀ classes s₀ rows stack 
 abbrev μ-loop : tie.MeasureT-loop
 μ-loop message rows₀ stack₀ marks₀ registers₀ classes s₀ rows stack marks registers s = length message - s .at .0
 
--- back to the step, to where the byte was found, to the loop's head, and to the call
+-- back to the step, to where the place was tested, to the loop's head, and to the call
 abbrev stepped : (c : tie.After-slice-known8 Inv-loop μ-loop) → tie.After-step Inv-loop μ-loop
 stepped c = c .before .before .before .before .before .before .before .before
 
-abbrev found-at : (c : tie.After-step Inv-loop μ-loop) → tie.After-q Inv-loop μ-loop
-found-at c = c .before .before .before .before .before .before .before .before .before
+abbrev test : (c : tie.After-step Inv-loop μ-loop) → tie.Else1 Inv-loop μ-loop
+test c = c .before .before .before .before .before .before .before
 
-abbrev head : (c : tie.After-q Inv-loop μ-loop) → tie.At-loop Inv-loop μ-loop
-head c = c .before .before .before .before
+abbrev head : (c : tie.Else1 Inv-loop μ-loop) → tie.At-loop Inv-loop μ-loop
+head c = c .before .before
 
 abbrev call : (c : tie.At-loop Inv-loop μ-loop) → tie.Start Inv-loop μ-loop
 call c = c .before .before .before .before .before .before .before
 
--- the tables lent, those at the loop's head, and those that the step leaves; the state at the item's first byte
+-- the tables lent, those at the loop's head, and those that the step leaves
 abbrev lent : (c : tie.At-loop Inv-loop μ-loop) → Tables
 lent c = tables (now (call c .args .rows)) (now (call c .args .stack)) (now (call c .args .marks)) (now (call c .args .registers))
 
@@ -52,44 +50,33 @@ held c = tables (c .loop .rows) (c .loop .stack) (c .loop .marks) (c .loop .regi
 abbrev left : (c : tie.After-step Inv-loop μ-loop) → Tables
 left c = tables (c .step .last .1 .1 .0) (c .step .last .1 .1 .1 .0) (c .step .last .1 .1 .1 .1 .0) (c .step .last .1 .1 .1 .1 .1 .0)
 
-abbrev here : (c : tie.After-q Inv-loop μ-loop) → State
-here c = placed (head c .loop .s) (c .q .given .0 .1 .0)
-
--- what is known at that byte
-found : (c : tie.After-q Inv-loop μ-loop) → nextFrom (head c .loop .s .at .0) (drop (head c .loop .s .at .0) (now (call (head c) .args .message))) ≡ Byte (c .q .given .0 .0) (c .q .given .0 .1 .0)
-found c = sym (c .before .before .next-byte .ensures) ∙ c .q .given .1
-
-inside : (c : tie.After-q Inv-loop μ-loop) → (head c .loop .s .at .0 ≤ here c .at .0) × (here c .at .0 < length (now (call (head c) .args .message)))
-inside c = byte-inside _ _ _ _ (head c .loop .inv) _ _ (found c)
-
-going : (c : tie.After-q Inv-loop μ-loop) → Going (now (call (head c) .args .message)) (lent (head c)) (held (head c)) (here c)
-going c = at-byte _ _ _ _ (head c .loop .inv) _ _ (found c)
-
-first : (c : tie.After-q Inv-loop μ-loop) → drop (here c .at .0) (now (call (head c) .args .message)) ≡ c .q .given .0 .0 ∷ drop (suc (here c .at .0)) (now (call (head c) .args .message))
-first c = byte-here _ _ _ _ (head c .loop .inv) _ _ (found c)
+-- the item's first byte
+first : (c : tie.Else1 Inv-loop μ-loop)
+    → (let message = now (call (head c) .args .message) in let at = head c .loop .s .at .0 in drop at message ≡ getD message at 0 ∷ drop (suc at) message)
+first c = byte-here _ _ (c .if1 .left)
 
 -- no table has another length
-kept : (c : tie.After-step Inv-loop μ-loop) → SameLengths (held (head (found-at c))) (left c)
+kept : (c : tie.After-step Inv-loop μ-loop) → SameLengths (held (head (test c))) (left c)
 kept c = record { rows = sym (c .step .kept .1 .1 .0); stack = sym (c .step .kept .1 .1 .1 .0); marks = sym (c .step .kept .1 .1 .1 .1 .0); registers = sym (c .step .kept .1 .1 .1 .1 .1 .0) }
 
-all-kept : (c : tie.After-step Inv-loop μ-loop) → SameLengths (lent (head (found-at c))) (left c)
-all-kept c = chain (head (found-at c) .loop .inv .same) (kept c)
+all-kept : (c : tie.After-step Inv-loop μ-loop) → SameLengths (lent (head (test c))) (left c)
+all-kept c = chain (head (test c) .loop .inv .same) (kept c)
 
 -- the step goes on to the state s
-more : (c : tie.After-step Inv-loop μ-loop) (s : State) → c .step .result ≡ More s → Going (now (call (head (found-at c)) .args .message)) (lent (head (found-at c))) (left c) s × (here (found-at c) .at .0 < s .at .0)
-more c s e = goes-on _ _ _ _ (kept c) _ _ (going (found-at c)) (first (found-at c)) s (rw e at (c .step .ensures))
+more : (c : tie.After-step Inv-loop μ-loop) (s : State) → c .step .result ≡ More s → Going (now (call (head (test c)) .args .message)) (lent (head (test c))) (left c) s × (head (test c) .loop .s .at .0 < s .at .0)
+more c s e = goes-on _ _ _ _ (kept c) _ _ (head (test c) .loop .inv) (first (test c)) s (rw e at (c .step .ensures))
 
 -- the step ends the message with a root
 ends : (c : tie.After-step Inv-loop μ-loop) (root : RowNumber) → c .step .result ≡ Done root
-    → leftAs (Accepted (here (found-at c) .at .0 + 1) root (here (found-at c) .next .0)) (left c .rows)
-    ≡ leftBy (lent (head (found-at c)) .rows) (run rowValues (limitsOf (lent (head (found-at c)))) (now (call (head (found-at c)) .args .message)))
-ends c root e = done _ _ _ _ (kept c) _ _ (going (found-at c)) (first (found-at c)) root (rw e at (c .step .ensures))
+    → leftAs (Accepted (head (test c) .loop .s .at .0 + 1) root (head (test c) .loop .s .next .0)) (left c .rows)
+    ≡ leftBy (lent (head (test c)) .rows) (run rowValues (limitsOf (lent (head (test c)))) (now (call (head (test c)) .args .message)))
+ends c root e = done _ _ _ _ (kept c) _ _ (head (test c) .loop .inv) (first (test c)) root (rw e at (c .step .ensures))
 
 -- or refuses it
 refuses : (c : tie.After-step Inv-loop μ-loop) (n : ℕ) (p : Offset) → c .step .result ≡ Refused n p
     → leftAs (Decoded.Refused n p) (left c .rows)
-    ≡ leftBy (lent (head (found-at c)) .rows) (run rowValues (limitsOf (lent (head (found-at c)))) (now (call (head (found-at c)) .args .message)))
-refuses c n p e = stopped _ _ _ _ (kept c) _ _ (going (found-at c)) (first (found-at c)) n p (rw e at (c .step .ensures)) _
+    ≡ leftBy (lent (head (test c)) .rows) (run rowValues (limitsOf (lent (head (test c)))) (now (call (head (test c)) .args .message)))
+refuses c n p e = stopped _ _ _ _ (kept c) _ _ (head (test c) .loop .inv) (first (test c)) n p (rw e at (c .step .ensures)) _
 
 classes-requires : tie.Need-classes-requires Inv-loop μ-loop
 classes-requires c κs = search needs
@@ -97,36 +84,31 @@ classes-requires c κs = search needs
 loop-holds : tie.Need-loop-holds Inv-loop μ-loop
 loop-holds c =
     let p = c .before .before .before .before .before .before .pre in
-    starts _ _ (p .1 .0) (p .1 .1) (p .0 .1)
-
-next-byte-requires : tie.Need-next-byte-requires Inv-loop μ-loop
-next-byte-requires c κs = search needs
-
-enum-known-q : tie.Need-enum-known-q Inv-loop μ-loop
-enum-known-q c = search needs
-
-enum-told : tie.Need-enum-told Inv-loop μ-loop
-enum-told c = search needs
+    starts _ _ (p .1) (p .0 .1)
 
 same-length : tie.Need-same-length Inv-loop μ-loop
-same-length c = sym (c .before .before .before .before .loop .inv .same .rows)
+same-length c = sym (c .before .before .loop .inv .same .rows)
 
 same-length-2 : tie.Need-same-length-2 Inv-loop μ-loop
-same-length-2 c = sym (c .before .before .before .before .loop .inv .same .stack)
+same-length-2 c = sym (c .before .before .loop .inv .same .stack)
 
 same-length-3 : tie.Need-same-length-3 Inv-loop μ-loop
-same-length-3 c = sym (c .before .before .before .before .loop .inv .same .marks)
+same-length-3 c = sym (c .before .before .loop .inv .same .marks)
 
 same-length-4 : tie.Need-same-length-4 Inv-loop μ-loop
-same-length-4 c = sym (c .before .before .before .before .loop .inv .same .registers)
+same-length-4 c = sym (c .before .before .loop .inv .same .registers)
 
 returns : tie.Need-returns Inv-loop μ-loop
-returns c = over _ _ _ _ (c .before .before .before .before .loop .inv) (sym (c .before .before .next-byte .ensures) ∙ c .enum-told .given .1) _
+returns c = over _ _ _ _ (c .before .before .loop .inv) (c .if1 .taken) _
+
+shared-slice-read-b : tie.Need-shared-slice-read-b Inv-loop μ-loop
+shared-slice-read-b c = search needs
 
 step-requires : tie.Need-step-requires Inv-loop μ-loop
 step-requires c κs =
-    let e = c .before .before .before .before .before .before .before .before in
-    ((inside e .1, call (head e) .pre .0 .0), (going e .before .ready, head e .before .classes .ensures _ (search needs)))
+    let read = c .before .before .before .before .before in
+    let e = read .before in
+    ((e .if1 .left, call (head e) .pre .0 .0), (head e .loop .inv .before .ready, head e .before .classes .ensures _ (omega (arith, read .shared-slice-known2 .given (head e .loop .s .at .0)))))
 
 enum-known-a : tie.Need-enum-known-a Inv-loop μ-loop
 enum-known-a c = search needs
@@ -134,7 +116,7 @@ enum-known-a c = search needs
 loop-less : tie.Need-loop-less Inv-loop μ-loop
 loop-less c =
     let e = stepped (c .before .before .before) in
-    omega (arith, inside (found-at e), more e _ (c .before .a .given .1) .1)
+    omega (arith, test e .if1 .left, more e _ (c .before .a .given .1) .1)
 
 loop-again : tie.Need-loop-again Inv-loop μ-loop
 loop-again c = more (stepped (c .before .before .before)) _ (c .before .a .given .1) .0
@@ -144,23 +126,23 @@ enum-known-a-2 c = search needs
 
 add-t35 : tie.Need-add-t35 Inv-loop μ-loop
 add-t35 c =
-    let e = stepped (c .before .before .before .before) in
-    omega (arith, inside (found-at e) .1, call (head (found-at e)) .pre .0 .0)
+    let e = stepped (c .before .before .before) in
+    omega (arith, test e .if1 .left, call (head (test e)) .pre .0 .0)
 
 same-length-5 : tie.Need-same-length-5 Inv-loop μ-loop
-same-length-5 c = sym (all-kept (stepped (c .before .before .before .before)) .rows)
+same-length-5 c = sym (all-kept (stepped (c .before .before .before)) .rows)
 
 same-length-6 : tie.Need-same-length-6 Inv-loop μ-loop
-same-length-6 c = sym (all-kept (stepped (c .before .before .before .before)) .stack)
+same-length-6 c = sym (all-kept (stepped (c .before .before .before)) .stack)
 
 same-length-7 : tie.Need-same-length-7 Inv-loop μ-loop
-same-length-7 c = sym (all-kept (stepped (c .before .before .before .before)) .marks)
+same-length-7 c = sym (all-kept (stepped (c .before .before .before)) .marks)
 
 same-length-8 : tie.Need-same-length-8 Inv-loop μ-loop
-same-length-8 c = sym (all-kept (stepped (c .before .before .before .before)) .registers)
+same-length-8 c = sym (all-kept (stepped (c .before .before .before)) .registers)
 
 returns-2 : tie.Need-returns-2 Inv-loop μ-loop
-returns-2 c = ends (stepped (c .before .before .before .before)) _ (c .before .before .a2 .given .1)
+returns-2 c = ends (stepped (c .before .before .before)) _ (c .before .a2 .given .1)
 
 enum-known-a-3 : tie.Need-enum-known-a-3 Inv-loop μ-loop
 enum-known-a-3 c = search needs
@@ -188,14 +170,12 @@ run-spec =
     μ-loop
     classes-requires
     loop-holds
-    next-byte-requires
-    enum-known-q
-    enum-told
     same-length
     same-length-2
     same-length-3
     same-length-4
     returns
+    shared-slice-read-b
     step-requires
     enum-known-a
     loop-less

@@ -1,5 +1,5 @@
 -- `decoder::run::step` meets its contract: the class of the first byte tells the item, and each item does what the machine's step does.
-use Prim.Native.Nat.{_+_}
+use Prim.Native.Nat.{_+_, _-_, _<_}
 use mathlib.Core.Path.{_≡_, sym, _∙_}
 use native.Mathlib.Omega.{arith}
 use lib.ListN.{drop, getD}
@@ -7,12 +7,10 @@ use denote.Ref.{now}
 use Rattle.format.specs.Byte as B
 use Rattle.format.specs.Byte.{Class, classOf, classCode}
 use Rattle.format.specs.Lex.{lex, itemOf}
-use Rattle.lexer.specs.Integer.{withSign}
-use Rattle.lexer.proofs.Bytes.{has, digit-range}
+use Rattle.format.specs.Rows.{rowRoom}
 use Rattle.decoder.specs.Answers.{tables}
 use Rattle.decoder.specs.Held.{Ready}
-use Rattle.decoder.specs.Readers.{begunItem}
-use Rattle.decoder.proofs.Classes.{lex-of, only-comma}
+use Rattle.decoder.proofs.Classes.{lex-of, only-comma, integer-lex, integer-first}
 use Rattle.decoder.proofs.Spans.{atoms, strings}
 use Rattle.decoder.proofs.Steps.{stray}
 use borrow.Author.Needs.{needs}
@@ -29,6 +27,10 @@ ready c = call c .pre .1 .0
 rule : (c : tie.After-k) → getD (now (call c .args .classes)) (call c .args .b) 0 ≡ classCode (classOf (call c .args .b))
 rule c = call c .pre .1 .1
 
+-- the first byte is a byte
+byte : (c : tie.After-k) → call c .args .b < 256
+byte c = search needs
+
 -- the item that a class's number stands for
 item : (c : tie.After-k) (k : Class) → getD (now (call c .args .classes)) (call c .args .b) 0 ≡ classCode k
     → lex (call c .args .b) (drop (call c .args .s .at .0 + 1) (now (call c .args .message))) ≡ itemOf k (call c .args .b) (drop (call c .args .s .at .0 + 1) (now (call c .args .message)))
@@ -39,20 +41,6 @@ element-copy-out-k c = search needs
 
 white-item-requires : tie.Need-white-item-requires
 white-item-requires c κs = search needs
-
-sub-t20 : tie.Need-sub-t20
-sub-t20 c =
-    let at = c .before .before .before in
-    omega (arith, digit-range _ (has B.digit _ (rule at) (c .before .before .match .keys2)) .0)
-
-cast-t21 : tie.Need-cast-t21
-cast-t21 c = search needs
-
-integer-item-requires : tie.Need-integer-item-requires
-integer-item-requires c κs = search needs
-
-integer-item-requires-2 : tie.Need-integer-item-requires-2
-integer-item-requires-2 c κs = search needs
 
 quoted-item-requires : tie.Need-quoted-item-requires
 quoted-item-requires c κs = search needs
@@ -85,12 +73,20 @@ end-item-requires : tie.Need-end-item-requires
 end-item-requires c κs = search needs
 
 store-item-requires : tie.Need-store-item-requires
+unfolding rowRoom
 store-item-requires c κs =
-    let held = ready (c .before .before .before .before) in
-    (search needs, (search needs, (search needs, (search needs, λ l. held .values _ (omega arith)))))
+    let at = c .before .before .before .before in
+    let held = ready at in
+    (search needs, (search needs, (search needs, (search needs, λ l. omega (arith, held .values (call at .args .s .depth .0 - 1) (omega arith), held .used)))))
 
 push-item-requires : tie.Need-push-item-requires
 push-item-requires c κs = search needs
+
+integer-item-requires : tie.Need-integer-item-requires
+integer-item-requires c κs =
+    let test = c .before .before in
+    let at = test .before .before in
+    (search needs, integer-first _ _ (byte at) (rule at) (test .before .match .rest) (test .if1 .taken))
 
 returns : tie.Need-returns
 unfolding itemOf
@@ -105,10 +101,10 @@ same-length-2 : tie.Need-same-length-2
 same-length-2 c = search needs
 
 returns-2 : tie.Need-returns-2
-unfolding itemOf begunItem withSign
+unfolding itemOf
 returns-2 c =
     let at = c .before .before .before .before .before .before .before .before in
-    rw (item at B.digit (c .before .before .before .before .before .before .before .match .keys2)) (c .before .before .before .before .integer-item .ensures _ _ (ready at))
+    rw (item at B.atomQuote (c .before .before .before .before .before .before .before .match .keys2)) (c .before .before .before .before .quoted-item .ensures _ _ _ (ready at) atoms)
 
 same-length-3 : tie.Need-same-length-3
 same-length-3 c = search needs
@@ -117,10 +113,10 @@ same-length-4 : tie.Need-same-length-4
 same-length-4 c = search needs
 
 returns-3 : tie.Need-returns-3
-unfolding itemOf begunItem
+unfolding itemOf
 returns-3 c =
     let at = c .before .before .before .before .before .before .before .before in
-    rw (item at B.minus (c .before .before .before .before .before .before .before .match .keys3)) (c .before .before .before .before .integer-item2 .ensures _ _ (ready at))
+    rw (item at B.stringQuote (c .before .before .before .before .before .before .before .match .keys3)) (c .before .before .before .before .quoted-item2 .ensures _ _ _ (ready at) strings)
 
 same-length-5 : tie.Need-same-length-5
 same-length-5 c = search needs
@@ -128,23 +124,29 @@ same-length-5 c = search needs
 same-length-6 : tie.Need-same-length-6
 same-length-6 c = search needs
 
-returns-4 : tie.Need-returns-4
-unfolding itemOf
-returns-4 c =
-    let at = c .before .before .before .before .before .before .before .before in
-    rw (item at B.atomQuote (c .before .before .before .before .before .before .before .match .keys4)) (c .before .before .before .before .quoted-item .ensures _ _ _ (ready at) atoms)
-
 same-length-7 : tie.Need-same-length-7
 same-length-7 c = search needs
 
-same-length-8 : tie.Need-same-length-8
-same-length-8 c = search needs
+returns-4 : tie.Need-returns-4
+unfolding itemOf
+returns-4 c =
+    let at = c .before .before .before .before .before .before .before .before .before in
+    rw (item at B.tagQuote (c .before .before .before .before .before .before .before .before .match .keys4)) (c .before .before .before .before .tag-item .ensures _ (ready at))
 
 returns-5 : tie.Need-returns-5
 unfolding itemOf
 returns-5 c =
-    let at = c .before .before .before .before .before .before .before .before in
-    rw (item at B.stringQuote (c .before .before .before .before .before .before .before .match .keys5)) (c .before .before .before .before .quoted-item2 .ensures _ _ _ (ready at) strings)
+    let at = c .before .before in
+    rw (item at B.commentQuote (c .before .match .keys5)) (c .comment-item .ensures _ (ready at))
+
+same-length-8 : tie.Need-same-length-8
+same-length-8 c = search needs
+
+returns-6 : tie.Need-returns-6
+unfolding itemOf
+returns-6 c =
+    let at = c .before .before .before .before .before in
+    rw (item at B.leftBrace (c .before .before .before .before .match .keys6)) (c .before .before .open-item .ensures _ _ _ _ (ready at))
 
 same-length-9 : tie.Need-same-length-9
 same-length-9 c = search needs
@@ -155,26 +157,14 @@ same-length-10 c = search needs
 same-length-11 : tie.Need-same-length-11
 same-length-11 c = search needs
 
-returns-6 : tie.Need-returns-6
-unfolding itemOf
-returns-6 c =
-    let at = c .before .before .before .before .before .before .before .before .before in
-    rw (item at B.tagQuote (c .before .before .before .before .before .before .before .before .match .keys6)) (c .before .before .before .before .tag-item .ensures _ (ready at))
-
 returns-7 : tie.Need-returns-7
 unfolding itemOf
 returns-7 c =
-    let at = c .before .before in
-    rw (item at B.commentQuote (c .before .match .keys7)) (c .comment-item .ensures _ (ready at))
+    let at = c .before .before .before .before .before .before .before .before .before in
+    rw (item at B.rightBrace (c .before .before .before .before .before .before .before .before .match .keys7)) (c .before .before .before .before .close-item .ensures _ _ (ready at))
 
 same-length-12 : tie.Need-same-length-12
 same-length-12 c = search needs
-
-returns-8 : tie.Need-returns-8
-unfolding itemOf
-returns-8 c =
-    let at = c .before .before .before .before .before in
-    rw (item at B.leftBrace (c .before .before .before .before .match .keys8)) (c .before .before .open-item .ensures _ _ _ _ (ready at))
 
 same-length-13 : tie.Need-same-length-13
 same-length-13 c = search needs
@@ -182,17 +172,23 @@ same-length-13 c = search needs
 same-length-14 : tie.Need-same-length-14
 same-length-14 c = search needs
 
+returns-8 : tie.Need-returns-8
+unfolding itemOf
+returns-8 c =
+    let at = c .before .before .before .before .before .before .before .before .before in
+    rw (item at B.tilde (c .before .before .before .before .before .before .before .before .match .keys8)) (c .before .before .before .before .binary-item .ensures _ (ready at))
+
 same-length-15 : tie.Need-same-length-15
 same-length-15 c = search needs
+
+same-length-16 : tie.Need-same-length-16
+same-length-16 c = search needs
 
 returns-9 : tie.Need-returns-9
 unfolding itemOf
 returns-9 c =
-    let at = c .before .before .before .before .before .before .before .before .before in
-    rw (item at B.rightBrace (c .before .before .before .before .before .before .before .before .match .keys9)) (c .before .before .before .before .close-item .ensures _ _ (ready at))
-
-same-length-16 : tie.Need-same-length-16
-same-length-16 c = search needs
+    let at = c .before .before .before .before .before .before .before .before in
+    rw (item at B.hash (c .before .before .before .before .before .before .before .match .keys9)) (c .before .before .before .before .nil-item .ensures _ _ _ (ready at))
 
 same-length-17 : tie.Need-same-length-17
 same-length-17 c = search needs
@@ -200,14 +196,14 @@ same-length-17 c = search needs
 same-length-18 : tie.Need-same-length-18
 same-length-18 c = search needs
 
+same-length-19 : tie.Need-same-length-19
+same-length-19 c = search needs
+
 returns-10 : tie.Need-returns-10
 unfolding itemOf
 returns-10 c =
     let at = c .before .before .before .before .before .before .before .before .before in
-    rw (item at B.tilde (c .before .before .before .before .before .before .before .before .match .keys10)) (c .before .before .before .before .binary-item .ensures _ (ready at))
-
-same-length-19 : tie.Need-same-length-19
-same-length-19 c = search needs
+    rw (item at B.ampersand (c .before .before .before .before .before .before .before .before .match .keys10)) (c .before .before .before .before .cons-item .ensures _ _ (ready at))
 
 same-length-20 : tie.Need-same-length-20
 same-length-20 c = search needs
@@ -215,8 +211,8 @@ same-length-20 c = search needs
 returns-11 : tie.Need-returns-11
 unfolding itemOf
 returns-11 c =
-    let at = c .before .before .before .before .before .before .before .before in
-    rw (item at B.hash (c .before .before .before .before .before .before .before .match .keys11)) (c .before .before .before .before .nil-item .ensures _ _ _ (ready at))
+    let at = c .before .before .before in
+    rw (item at B.dollar (c .before .before .match .keys11)) (c .end-item .ensures _ _ _ _)
 
 same-length-21 : tie.Need-same-length-21
 same-length-21 c = search needs
@@ -230,20 +226,20 @@ same-length-23 c = search needs
 returns-12 : tie.Need-returns-12
 unfolding itemOf
 returns-12 c =
-    let at = c .before .before .before .before .before .before .before .before .before in
-    rw (item at B.ampersand (c .before .before .before .before .before .before .before .before .match .keys12)) (c .before .before .before .before .cons-item .ensures _ _ (ready at))
+    let at = c .before .before .before .before .before .before .before in
+    rw (item at B.greater (c .before .before .before .before .before .before .match .keys12)) (c .before .before .store-item .ensures _ (ready at))
 
 same-length-24 : tie.Need-same-length-24
 same-length-24 c = search needs
 
+same-length-25 : tie.Need-same-length-25
+same-length-25 c = search needs
+
 returns-13 : tie.Need-returns-13
 unfolding itemOf
 returns-13 c =
-    let at = c .before .before .before in
-    rw (item at B.dollar (c .before .before .match .keys13)) (c .end-item .ensures _ _ _ _)
-
-same-length-25 : tie.Need-same-length-25
-same-length-25 c = search needs
+    let at = c .before .before .before .before .before .before in
+    rw (item at B.register (c .before .before .before .before .before .match .keys13)) (c .before .before .push-item .ensures _ _ _ (ready at))
 
 same-length-26 : tie.Need-same-length-26
 same-length-26 c = search needs
@@ -252,28 +248,17 @@ same-length-27 : tie.Need-same-length-27
 same-length-27 c = search needs
 
 returns-14 : tie.Need-returns-14
-unfolding itemOf
 returns-14 c =
-    let at = c .before .before .before .before .before .before .before in
-    rw (item at B.greater (c .before .before .before .before .before .before .match .keys14)) (c .before .before .store-item .ensures _ (ready at))
-
-same-length-28 : tie.Need-same-length-28
-same-length-28 c = search needs
-
-same-length-29 : tie.Need-same-length-29
-same-length-29 c = search needs
+    let item = c .before .before .before .before in
+    let test = item .before .before .before in
+    let at = test .before .before in
+    rw (integer-lex _ _ (byte at) (rule at) (test .before .match .rest) (test .if1 .taken) _) (item .integer-item .ensures _ _ (ready at))
 
 returns-15 : tie.Need-returns-15
 unfolding itemOf
 returns-15 c =
-    let at = c .before .before .before .before .before .before in
-    rw (item at B.register (c .before .before .before .before .before .match .keys15)) (c .before .before .push-item .ensures _ _ _ (ready at))
-
-returns-16 : tie.Need-returns-16
-unfolding itemOf
-returns-16 c =
-    let at = c .before in
-    rw (item at B.comma (only-comma (classOf _) _ (rule at) (c .match .rest))) (stray _ _ _)
+    let at = c .before .before in
+    rw (item at B.comma (only-comma (classOf _) _ (rule at) (c .before .match .rest) (c .if1 .left))) (stray _ _ _)
 
 pub step-spec : {M : Type 1} → statement M
 step-spec =
@@ -281,10 +266,6 @@ step-spec =
     (tie.spec
     element-copy-out-k
     white-item-requires
-    sub-t20
-    cast-t21
-    integer-item-requires
-    integer-item-requires-2
     quoted-item-requires
     quoted-item-requires-2
     tag-item-requires
@@ -297,6 +278,7 @@ step-spec =
     end-item-requires
     store-item-requires
     push-item-requires
+    integer-item-requires
     returns
     same-length
     same-length-2
@@ -306,26 +288,26 @@ step-spec =
     returns-3
     same-length-5
     same-length-6
-    returns-4
     same-length-7
-    same-length-8
+    returns-4
     returns-5
+    same-length-8
+    returns-6
     same-length-9
     same-length-10
     same-length-11
-    returns-6
     returns-7
     same-length-12
-    returns-8
     same-length-13
     same-length-14
+    returns-8
     same-length-15
-    returns-9
     same-length-16
+    returns-9
     same-length-17
     same-length-18
-    returns-10
     same-length-19
+    returns-10
     same-length-20
     returns-11
     same-length-21
@@ -333,12 +315,9 @@ step-spec =
     same-length-23
     returns-12
     same-length-24
-    returns-13
     same-length-25
+    returns-13
     same-length-26
     same-length-27
     returns-14
-    same-length-28
-    same-length-29
-    returns-15
-    returns-16)
+    returns-15)

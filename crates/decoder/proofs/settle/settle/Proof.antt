@@ -1,10 +1,13 @@
--- `decoder::settle::settle` meets its contract: each table is cleared, the rows only after a refusal.
+-- `decoder::settle::settle` meets its contract: each table is cleared, the rows past those used.
 use Rattle.decoder.proofs.Decodes.{settled-refused, settled-accepted}
 use borrow.Author.Needs.{needs}
 use Rattle.decoder.proofs.settle.settle.Statement.{statement}
 use Rattle.decoder.proofs.settle.settle.Tie as tie
 
--- from each clearing back to the one before
+-- back to where the working memory is cleared, and from each clearing to the one before
+abbrev working : (c : tie.After-slice-known7) → tie.After-clear3
+working c = c .before .before
+
 abbrev second : (c : tie.After-clear3) → tie.After-clear2
 second c = c .before .before .before .before
 
@@ -26,8 +29,17 @@ enum-told c = search needs
 clear-requires-4 : tie.Need-clear-requires-4
 clear-requires-4 c κs = search needs
 
-enum-told-2 : tie.Need-enum-told-2
-enum-told-2 c = search needs
+enum-known-answer : tie.Need-enum-known-answer
+enum-known-answer c = search needs
+
+cast-clear-from : tie.Need-cast-clear-from
+cast-clear-from c = search needs
+
+mul-clear-from : tie.Need-mul-clear-from
+mul-clear-from c = search needs
+
+clear-from-requires : tie.Need-clear-from-requires
+clear-from-requires c κs = search needs
 
 same-length : tie.Need-same-length
 same-length c = search needs
@@ -43,8 +55,10 @@ same-length-4 c = search needs
 
 returns : tie.Need-returns
 returns c =
-    let at = c .before .before .before .before .before .before .before .before in
-    settled-refused _ _ _ _ _ (first (second at) .clear .ensures) (second at .clear2 .ensures) (at .clear3 .ensures) _ _ (c .before .before .before .before .enum-told .given .1) (c .before .before .clear4 .ensures)
+    let rows = c .before .before in
+    let answer = rows .before .before in
+    let at = working (answer .before .before) in
+    settled-refused _ _ _ _ _ (first (second at) .clear .ensures) (second at .clear2 .ensures) (at .clear3 .ensures) _ _ (answer .enum-told .given .1) (rows .clear4 .ensures)
 
 same-length-5 : tie.Need-same-length-5
 same-length-5 c = search needs
@@ -55,10 +69,15 @@ same-length-6 c = search needs
 same-length-7 : tie.Need-same-length-7
 same-length-7 c = search needs
 
+same-length-8 : tie.Need-same-length-8
+same-length-8 c = search needs
+
 returns-2 : tie.Need-returns-2
 returns-2 c =
-    let at = c .before .before .before .before in
-    settled-accepted _ _ _ _ _ (first (second at) .clear .ensures) (second at .clear2 .ensures) (at .clear3 .ensures) _ _ _ (c .enum-told2 .given .1)
+    let rows = c .before .before in
+    let answer = rows .before .before .before in
+    let at = working (answer .before .before) in
+    settled-accepted _ _ _ _ _ (first (second at) .clear .ensures) (second at .clear2 .ensures) (at .clear3 .ensures) _ _ _ (answer .answer .given .1) (rows .clear-from .ensures)
 
 pub settle-spec : {M : Type 1} → statement M
 settle-spec =
@@ -69,7 +88,10 @@ settle-spec =
     clear-requires-3
     enum-told
     clear-requires-4
-    enum-told-2
+    enum-known-answer
+    cast-clear-from
+    mul-clear-from
+    clear-from-requires
     same-length
     same-length-2
     same-length-3
@@ -78,4 +100,5 @@ settle-spec =
     same-length-5
     same-length-6
     same-length-7
+    same-length-8
     returns-2)

@@ -1,4 +1,5 @@
 -- `decoder::state::base` meets its contract.
+use mathlib.Core.Path.{_∙_}
 use Rattle.decoder.proofs.Pops.{base-none, base-last}
 use borrow.Author.Needs.{needs}
 use Rattle.decoder.proofs.state.base.Statement.{statement}
@@ -13,14 +14,17 @@ sub-i c = search needs
 cast-i : tie.Need-cast-i
 cast-i c = search needs
 
-mul-t6 : tie.Need-mul-t6
-mul-t6 c = search needs
+mul-depth-of : tie.Need-mul-depth-of
+mul-depth-of c = search needs
 
-shared-slice-read-t5 : tie.Need-shared-slice-read-t5
-shared-slice-read-t5 c = search needs
+shared-slice-read-depth-of : tie.Need-shared-slice-read-depth-of
+shared-slice-read-depth-of c = search needs
+
+depth-of-requires : tie.Need-depth-of-requires
+depth-of-requires c κs = search needs
 
 returns-2 : tie.Need-returns-2
-returns-2 c = base-last _ _ (c .before .if1 .left)
+returns-2 c = c .depth-of .ensures ∙ base-last _ _ (c .before .before .if1 .left)
 
 pub base-spec : {M : Type 1} → statement M
-base-spec = tie.close (tie.spec returns sub-i cast-i mul-t6 shared-slice-read-t5 returns-2)
+base-spec = tie.close (tie.spec returns sub-i cast-i mul-depth-of shared-slice-read-depth-of depth-of-requires returns-2)

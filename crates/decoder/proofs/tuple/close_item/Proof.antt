@@ -50,9 +50,6 @@ row-room-requires c κs = search needs
 cast-if3 : tie.Need-cast-if3
 cast-if3 c = search needs
 
-cast-if3-2 : tie.Need-cast-if3-2
-cast-if3-2 c = search needs
-
 add-if3 : tie.Need-add-if3
 add-if3 c = search needs
 
@@ -64,9 +61,6 @@ returns-3 c rg r h =
     let e = c .before .before .before .before .before in
     refusal _ _ _ (close-12 _ _ _ rg _ r _ (marked (first e)) (e .before .before .base .ensures) (e .if2 .left) (rw (c .before .before .row-room .ensures) at (c .if3 .taken)))
 
-cast-i : tie.Need-cast-i
-cast-i c = search needs
-
 room-requires : tie.Need-room-requires
 room-requires c κs = search needs
 
@@ -77,6 +71,10 @@ returns-4 : tie.Need-returns-4
 returns-4 c rg r h =
     let e = second (c .before .before) in
     refusal _ _ _ (close-13 _ _ _ rg _ r _ (marked (first e)) (e .before .before .base .ensures) (e .if2 .left) (row-left (c .before .before)) (rw (c .before .room .ensures) at (c .if4 .taken)))
+
+cast-last : tie.Need-cast-last
+unfolding rowRoom
+cast-last c = omega (arith, row-left (third c))
 
 add-last : tie.Need-add-last
 unfolding rowRoom
@@ -91,18 +89,18 @@ mul-stack c = search needs
 slice-write-stack : tie.Need-slice-write-stack
 slice-write-stack c = search needs
 
-add-t21 : tie.Need-add-t21
-add-t21 c = search needs
+add-t15 : tie.Need-add-t15
+add-t15 c = search needs
 
-add-t29 : tie.Need-add-t29
+add-t20 : tie.Need-add-t20
 unfolding rowRoom
-add-t29 c = omega (arith, row-left (third (c .before .before .before .before .before .before)))
+add-t20 c = omega (arith, row-left (third (c .before .before .before .before .before .before)))
 
-add-t31 : tie.Need-add-t31
-add-t31 c = search needs
+add-t19 : tie.Need-add-t19
+add-t19 c = search needs
 
-sub-t33 : tie.Need-sub-t33
-sub-t33 c = search needs
+sub-t30 : tie.Need-sub-t30
+sub-t30 c = search needs
 
 same-length-3 : tie.Need-same-length-3
 same-length-3 c = search needs
@@ -124,22 +122,21 @@ close-item-spec =
     returns-2
     row-room-requires
     cast-if3
-    cast-if3-2
     add-if3
     same-length
     returns-3
-    cast-i
     room-requires
     same-length-2
     returns-4
+    cast-last
     add-last
     store-tuple-requires
     mul-stack
     slice-write-stack
-    add-t21
-    add-t29
-    add-t31
-    sub-t33
+    add-t15
+    add-t20
+    add-t19
+    sub-t30
     same-length-3
     same-length-4
     returns-5)

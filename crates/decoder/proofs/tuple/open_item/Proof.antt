@@ -14,17 +14,20 @@ room-requires c κs = search needs
 returns : tie.Need-returns
 returns c w st rg r h = refusal _ _ _ (open-14 w st _ rg _ r h (rw (c .before .room .ensures) at (c .if1 .taken)))
 
+cast-marks : tie.Need-cast-marks
+cast-marks c = search needs
+
 mul-marks : tie.Need-mul-marks
 mul-marks c = search needs
 
 slice-write-marks : tie.Need-slice-write-marks
 slice-write-marks c = search needs
 
-add-t10 : tie.Need-add-t10
-add-t10 c = search needs
+add-t11 : tie.Need-add-t11
+add-t11 c = search needs
 
-add-t14 : tie.Need-add-t14
-add-t14 c = search needs
+add-t13 : tie.Need-add-t13
+add-t13 c = search needs
 
 same-length : tie.Need-same-length
 same-length c = search needs
@@ -39,9 +42,10 @@ open-item-spec =
     cast-i
     room-requires
     returns
+    cast-marks
     mul-marks
     slice-write-marks
-    add-t10
-    add-t14
+    add-t11
+    add-t13
     same-length
     returns-2)

@@ -17,9 +17,6 @@ row-left c = rw (c .before .row-room .ensures) at (c .if1 .left)
 stack-left : (c : tie.Else2) → c .before .before .before .before .before .before .before .before .before .args .below .0 < min (length (now (c .before .before .before .before .before .before .before .before .before .args .stack))) stackBound
 stack-left c = rw (c .before .room .ensures) at (c .if2 .left)
 
-cast-i : tie.Need-cast-i
-cast-i c = search needs
-
 row-room-requires : tie.Need-row-room-requires
 row-room-requires c κs = search needs
 
@@ -50,12 +47,12 @@ mul-stack c = search needs
 slice-write-stack : tie.Need-slice-write-stack
 slice-write-stack c = search needs
 
-add-t21 : tie.Need-add-t21
+add-t20 : tie.Need-add-t20
 unfolding rowRoom
-add-t21 c = omega (arith, row-left (c .before .before .before .before .before .before))
+add-t20 c = omega (arith, row-left (c .before .before .before .before .before .before))
 
-add-t23 : tie.Need-add-t23
-add-t23 c = search needs
+add-t14 : tie.Need-add-t14
+add-t14 c = search needs
 
 same-length-3 : tie.Need-same-length-3
 same-length-3 c = search needs
@@ -71,7 +68,6 @@ pub push-value-spec : {M : Type 1} → statement M
 push-value-spec =
     tie.close
     (tie.spec
-    cast-i
     row-room-requires
     cast-if1
     same-length
@@ -82,8 +78,8 @@ push-value-spec =
     store-row-requires
     mul-stack
     slice-write-stack
-    add-t21
-    add-t23
+    add-t20
+    add-t14
     same-length-3
     same-length-4
     returns-3)

@@ -1,8 +1,7 @@
 -- `lexer::register::read_register` meets its contract, one law for each of its three answers.
-use mathlib.Core.Path.{sym}
+use mathlib.Core.Path.{sym, _∙_}
 use borrow.Author.Needs.{needs}
-use Rattle.format.specs.Byte as B
-use Rattle.lexer.proofs.Bytes.{has, has-not}
+use borrow.Author.Tests.{not-true, not-false}
 use Rattle.lexer.proofs.Registers as laws
 use Rattle.lexer.proofs.register.read_register.Statement.{statement}
 use Rattle.lexer.proofs.register.read_register.Tie as tie
@@ -13,18 +12,18 @@ returns c = sym (laws.ends _ _ (c .if1 .taken))
 shared-slice-read-b : tie.Need-shared-slice-read-b
 shared-slice-read-b c = search needs
 
-class-of-requires : tie.Need-class-of-requires
-class-of-requires c κs = search needs
+is-register-requires : tie.Need-is-register-requires
+is-register-requires c κs = search needs
 
 returns-2 : tie.Need-returns-2
-returns-2 c = sym (laws.strays _ _ (c .before .before .before .if1 .left) (has-not B.register _ (c .before .class-of .ensures) (c .if2 .taken)))
+returns-2 c = sym (laws.strays _ _ (c .before .before .before .if1 .left) (sym (c .before .is-register .ensures) ∙ not-true _ (c .if2 .taken)))
 
 add-t5 : tie.Need-add-t5
 add-t5 c = search needs
 
 returns-3 : tie.Need-returns-3
-returns-3 c = sym (laws.names _ _ (c .before .before .before .if1 .left) (has B.register _ (c .before .class-of .ensures) (c .if2 .left)))
+returns-3 c = sym (laws.names _ _ (c .before .before .before .if1 .left) (sym (c .before .is-register .ensures) ∙ not-false _ (c .if2 .left)))
 
 pub read-register-spec : {M : Type 1} → statement M
 read-register-spec =
-    tie.close (tie.spec returns shared-slice-read-b class-of-requires returns-2 add-t5 returns-3)
+    tie.close (tie.spec returns shared-slice-read-b is-register-requires returns-2 add-t5 returns-3)

@@ -3,6 +3,7 @@ use Prim.Native.Nat.{_-_}
 use mathlib.Core.Path.{_≡_, refl, sym, _∙_}
 use native.Mathlib.Omega.{arith}
 use borrow.Author.Tests.{not-true, not-false}
+use Rattle.format.proofs.PlainRuns.{not-before}
 use Rattle.table.proofs.Spelled as laws
 use Rattle.table.proofs.sound.is_spelled.Statement.{statement}
 use Rattle.table.proofs.sound.is_spelled.Tie as tie
@@ -16,22 +17,32 @@ abbrev μ-loop : tie.MeasureT-loop
 loop-holds : tie.Need-loop-holds Inv-loop μ-loop
 loop-holds c = refl
 
-shared-slice-read-b : tie.Need-shared-slice-read-b Inv-loop μ-loop
-shared-slice-read-b c = omega arith
-
-add-next : tie.Need-add-next Inv-loop μ-loop
-add-next c = omega arith
+plain-end-by-blocks-requires : tie.Need-plain-end-by-blocks-requires Inv-loop μ-loop
+plain-end-by-blocks-requires c κs = tt
 
 returns : tie.Need-returns Inv-loop μ-loop
 returns c =
     let turn = c .before .before in
-    sym (laws.closes _ _ _ (omega arith) _ (turn .loop-test .taken) (c .if1 .taken)) ∙ turn .before .loop .inv
+    sym (laws.run-ends _ _ _ (omega arith) (omega arith) (c .before .plain-end-by-blocks .ensures) (c .if1 .taken)) ∙ turn .before .loop .inv
+
+shared-slice-read-if2 : tie.Need-shared-slice-read-if2 Inv-loop μ-loop
+shared-slice-read-if2 c = omega arith
 
 returns-2 : tie.Need-returns-2 Inv-loop μ-loop
 returns-2 c =
-    let byte = c .before .before in
-    let turn = byte .before .before in
-    sym (laws.cut _ _ _ (omega arith) _ (turn .loop-test .taken) (byte .if1 .left) (c .before .if2 .taken) (c .if3 .taken)) ∙ turn .before .loop .inv
+    let mark = c .before .before in
+    let turn = mark .before .before in
+    sym (laws.run-closes _ _ _ (omega arith) (omega arith) (mark .before .plain-end-by-blocks .ensures) (mark .if1 .left) (c .if2 .taken)) ∙ turn .before .loop .inv
+
+add-next : tie.Need-add-next Inv-loop μ-loop
+add-next c = omega arith
+
+returns-3 : tie.Need-returns-3 Inv-loop μ-loop
+returns-3 c =
+    let escape = c .before in
+    let mark = escape .before .before in
+    let turn = mark .before .before in
+    sym (laws.run-cut _ _ _ (omega arith) (omega arith) (mark .before .plain-end-by-blocks .ensures) (mark .if1 .left) (escape .if2 .left) (c .if3 .taken)) ∙ turn .before .loop .inv
 
 shared-slice-read-may-follow : tie.Need-shared-slice-read-may-follow Inv-loop μ-loop
 shared-slice-read-may-follow c = omega arith
@@ -39,39 +50,35 @@ shared-slice-read-may-follow c = omega arith
 may-follow-requires : tie.Need-may-follow-requires Inv-loop μ-loop
 may-follow-requires c κs = tt
 
-returns-3 : tie.Need-returns-3 Inv-loop μ-loop
-returns-3 c =
+returns-4 : tie.Need-returns-4 Inv-loop μ-loop
+returns-4 c =
     let pair = c .before .before .before in
-    let byte = pair .before .before in
-    let turn = byte .before .before in
+    let escape = pair .before in
+    let mark = escape .before .before in
+    let turn = mark .before .before in
     let stray = sym (c .before .may-follow .ensures) ∙ not-true _ (c .if4 .taken) in
-    sym (laws.strays _ _ _ (omega arith) _ (turn .loop-test .taken) (byte .if1 .left) (pair .before .if2 .taken) (pair .if3 .left) stray) ∙ turn .before .loop .inv
+    sym (laws.run-strays _ _ _ (omega arith) (omega arith) (mark .before .plain-end-by-blocks .ensures) (mark .if1 .left) (escape .if2 .left) (pair .if3 .left) stray) ∙ turn .before .loop .inv
 
 add-i : tie.Need-add-i Inv-loop μ-loop
 add-i c = omega arith
 
 loop-less : tie.Need-loop-less Inv-loop μ-loop
-loop-less c = omega arith
+loop-less c =
+    let escape = c .before .before .before .before in
+    let mark = escape .before .before in
+    omega (arith, not-before _ _ _ _ (omega arith) (omega arith) (mark .before .plain-end-by-blocks .ensures))
 
 loop-again : tie.Need-loop-again Inv-loop μ-loop
 loop-again c =
     let pair = c .before .before .before in
-    let byte = pair .before .before in
-    let turn = byte .before .before in
-    let escape = sym (c .before .may-follow .ensures) ∙ not-false _ (c .if4 .left) in
-    sym (laws.passes-both _ _ _ (omega arith) _ (turn .loop-test .taken) (byte .if1 .left) (pair .before .if2 .taken) (pair .if3 .left) escape) ∙ turn .before .loop .inv
+    let escape = pair .before in
+    let mark = escape .before .before in
+    let turn = mark .before .before in
+    let follows = sym (c .before .may-follow .ensures) ∙ not-false _ (c .if4 .left) in
+    sym (laws.run-follows _ _ _ (omega arith) (omega arith) (mark .before .plain-end-by-blocks .ensures) (mark .if1 .left) (escape .if2 .left) (pair .if3 .left) follows) ∙ turn .before .loop .inv
 
-loop-less-2 : tie.Need-loop-less-2 Inv-loop μ-loop
-loop-less-2 c = omega arith
-
-loop-again-2 : tie.Need-loop-again-2 Inv-loop μ-loop
-loop-again-2 c =
-    let byte = c .before in
-    let turn = byte .before .before in
-    sym (laws.passes _ _ _ (omega arith) _ (turn .loop-test .taken) (byte .if1 .left) (c .if2 .left)) ∙ turn .before .loop .inv
-
-returns-4 : tie.Need-returns-4 Inv-loop μ-loop
-returns-4 c = sym (laws.ends _ _ _ _ (c .loop-test .left)) ∙ c .before .loop .inv
+returns-5 : tie.Need-returns-5 Inv-loop μ-loop
+returns-5 c = sym (laws.ends _ _ _ _ (c .loop-test .left)) ∙ c .before .loop .inv
 
 pub is-spelled-spec : {M : Type 1} → statement M
 is-spelled-spec =
@@ -80,16 +87,16 @@ is-spelled-spec =
     Inv-loop
     μ-loop
     loop-holds
-    shared-slice-read-b
-    add-next
+    plain-end-by-blocks-requires
     returns
+    shared-slice-read-if2
     returns-2
+    add-next
+    returns-3
     shared-slice-read-may-follow
     may-follow-requires
-    returns-3
+    returns-4
     add-i
     loop-less
     loop-again
-    loop-less-2
-    loop-again-2
-    returns-4)
+    returns-5)

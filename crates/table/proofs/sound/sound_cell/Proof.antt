@@ -7,7 +7,10 @@ returns : tie.Need-returns
 returns c = rw (ne-eqb _ _ (c .if1 .taken))
 
 returns-2 : tie.Need-returns-2
-returns-2 c = rw (eq-eqb _ _ (c .before .before .before .if1 .left), le-ltb _ _ (c .if2 .taken))
+returns-2 c =
+    let spare = c .before .before .before in
+    let own = spare .before .before .args in
+    rw (eq-eqb _ _ (spare .if1 .left), le-ltb (own .words .first) (own .n .0) (c .if2 .taken))
 
 returns-3 : tie.Need-returns-3
 returns-3 c =

@@ -31,7 +31,10 @@ sound-cell-requires-2 c κs = search needs
 
 returns : tie.Need-returns
 unfolding soundRow
-returns c = rw (c .before .before .before .match .keys9, le-ltb _ _ (c .if1 .taken), and-false)
+returns c =
+    let tag = c .before .before .before in
+    let own = tag .before .before .args in
+    rw (tag .match .keys9, le-ltb (own .words .third) (own .n .0) (c .if1 .taken), and-false)
 
 spelled-in-requires : tie.Need-spelled-in-requires
 spelled-in-requires c κs = search needs

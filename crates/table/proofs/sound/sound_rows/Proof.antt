@@ -18,8 +18,8 @@ abbrev μ-loop : tie.MeasureT-loop
 loop-holds : tie.Need-loop-holds Inv-loop μ-loop
 loop-holds c = laws.begins _ _ _
 
-load-row-requires : tie.Need-load-row-requires Inv-loop μ-loop
-load-row-requires c κs = tt
+read-row-requires : tie.Need-read-row-requires Inv-loop μ-loop
+read-row-requires c κs = omega arith
 
 sound-row-requires : tie.Need-sound-row-requires Inv-loop μ-loop
 sound-row-requires c κs = tt
@@ -29,23 +29,23 @@ returns c =
     let own = c .before .before in
     let turn = own .before in
     let unsound = sym (c .before .sound-row .ensures) ∙ not-true _ (c .if1 .taken) in
-    sym (laws.row-fails _ _ _ (omega arith) _ (turn .loop-test .taken) _ (own .load-row .ensures) unsound) ∙ turn .before .loop .inv
+    sym (laws.row-fails _ _ _ (omega arith) _ (turn .loop-test .taken) _ (own .read-row .ensures) unsound) ∙ turn .before .loop .inv
 
-load-row-requires-2 : tie.Need-load-row-requires-2 Inv-loop μ-loop
-load-row-requires-2 c κs = tt
-
-sound-rest-requires : tie.Need-sound-rest-requires Inv-loop μ-loop
-sound-rest-requires c κs = tt
+rest-fits-requires : tie.Need-rest-fits-requires Inv-loop μ-loop
+rest-fits-requires c κs =
+    let own = c .before .before in
+    let turn = own .before in
+    let sound = sym (c .before .sound-row .ensures) ∙ not-false _ (c .if1 .left) in
+    (laws.cons-room _ _ _ (omega arith) _ (turn .loop-test .taken) _ (own .read-row .ensures) sound, laws.field-room _ _ _ (omega arith) _ (turn .loop-test .taken) _ (own .read-row .ensures) sound)
 
 returns-2 : tie.Need-returns-2 Inv-loop μ-loop
 returns-2 c =
-    let other = c .before .before in
-    let past = other .before in
+    let past = c .before .before in
     let own = past .before .before in
     let turn = own .before in
     let sound = sym (past .before .sound-row .ensures) ∙ not-false _ (past .if1 .left) in
-    let rest = sym (c .before .sound-rest .ensures) ∙ not-true _ (c .if2 .taken) in
-    sym (laws.rest-fails _ _ _ (omega arith) _ (turn .loop-test .taken) _ (own .load-row .ensures) sound _ (other .load-row2 .ensures) rest) ∙ turn .before .loop .inv
+    let rest = sym (c .before .rest-fits .ensures) ∙ not-true _ (c .if2 .taken) in
+    sym (laws.rest-fails _ _ _ (omega arith) _ (turn .loop-test .taken) _ (own .read-row .ensures) sound rest) ∙ turn .before .loop .inv
 
 add-i : tie.Need-add-i Inv-loop μ-loop
 add-i c = omega arith
@@ -55,13 +55,12 @@ loop-less c = omega arith
 
 loop-again : tie.Need-loop-again Inv-loop μ-loop
 loop-again c =
-    let other = c .before .before in
-    let past = other .before in
+    let past = c .before .before in
     let own = past .before .before in
     let turn = own .before in
     let sound = sym (past .before .sound-row .ensures) ∙ not-false _ (past .if1 .left) in
-    let rest = sym (c .before .sound-rest .ensures) ∙ not-false _ (c .if2 .left) in
-    sym (laws.passes _ _ _ (omega arith) _ (turn .loop-test .taken) _ (own .load-row .ensures) sound _ (other .load-row2 .ensures) rest) ∙ turn .before .loop .inv
+    let rest = sym (c .before .rest-fits .ensures) ∙ not-false _ (c .if2 .left) in
+    sym (laws.passes _ _ _ (omega arith) _ (turn .loop-test .taken) _ (own .read-row .ensures) sound rest) ∙ turn .before .loop .inv
 
 returns-3 : tie.Need-returns-3 Inv-loop μ-loop
 returns-3 c = sym (laws.ends _ _ _ _ (c .loop-test .left)) ∙ c .before .loop .inv
@@ -73,11 +72,10 @@ sound-rows-spec =
     Inv-loop
     μ-loop
     loop-holds
-    load-row-requires
+    read-row-requires
     sound-row-requires
     returns
-    load-row-requires-2
-    sound-rest-requires
+    rest-fits-requires
     returns-2
     add-i
     loop-less
