@@ -10,6 +10,10 @@ pub mod Spans
 pub mod Pieces
 -- a turn of the walk, by what is still to come and by the row's kind
 pub mod Turns
+-- the lengths of rows' texts
+pub mod Lengths
+-- a plain text counted row by row
+pub mod Counts
 -- what the walk's stack stands for, and that a turn gives the next bytes of it
 pub mod Pending
 pub mod Walks

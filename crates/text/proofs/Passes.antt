@@ -2,25 +2,21 @@
 use Prim.Native.Nat.{ℕ, suc, _+_, _-_, _≤_, _<_}
 use Prim.Native.Char.{code}
 use mathlib.Core.Path.{_≡_, refl, ap, sym, _∙_}
-use mathlib.Core.Bool.{Bool, true, false}
 use mathlib.Core.List.{List, [], _∷_, _++_}
 use native.Mathlib.Nat.{zero-add}
 use native.Mathlib.Omega.{arith}
 use lib.ListN.{length, drop, getD, set, length-set, length-append}
-use lib.Dec.{T, leb, ltb}
+use lib.Dec.{T}
 use lib.Seq.{sets, length-sets, sets-eq}
-use borrow.Author.Tests.{le-leb, lt-leb, leb-true, leb-false}
-use Rattle.format.specs.Bound.{messageBound, rowBound}
+use Rattle.format.specs.Bound.{rowBound}
 use Rattle.format.specs.Rows.{rowAt, rowsOf, rowRoom, termAt}
 use Rattle.format.specs.Sound.{soundRows, soundTable}
 use Rattle.format.specs.Text.{plain}
 use Rattle.format.proofs.TableRows.{length-rows, Passed, passed}
 use Rattle.table.specs.Words.{lastFirst, rowIn}
 use Rattle.table.proofs.Rows.{row-of, length-lastFirst}
-use Rattle.text.specs.declared.piece.Piece.{Piece}
-use Rattle.text.specs.declared.piece.Piece.the-variants.{Nothing, Byte, Integer, Quoted, Binary}
 use Rattle.text.specs.declared.walk.Turn.{Turn}
-use Rattle.text.specs.Pieces.{bytesOf, Inside, Small}
+use Rattle.text.specs.Pieces.{bytesOf, Inside}
 use Rattle.text.specs.Walk.{entry, phaseOf, rowOf, Next, turnAt, turned}
 use Rattle.text.proofs.Stores.{stores}
 use Rattle.text.proofs.Turns.{one-put}
@@ -135,51 +131,6 @@ module _ (message words stack : List ℕ) (root : ℕ) (sound : T (soundTable me
     pub whole : toCome message words stack₀ stack₀ 1 ≡ plain (termAt message (rowsOf (length stack) words) root)
     unfolding plain pending entryOn
     whole = rw (same, e, begun) (pending-entry message (rowsOf (length stack) words) 0 root [] bound)
-
--- a span inside a slice within its bound has a length that a word holds
-pub inside-small : (message : List ℕ) (p : Piece) → length message ≤ messageBound → Inside message p → Small p
-unfolding Inside Small
-inside-small message Nothing h i = tt
-inside-small message (Byte b) h i = tt
-inside-small message (Integer negative n) h i = tt
-inside-small message (Quoted quote start n) h i = omega arith
-inside-small message (Binary start n) h i = omega arith
-
--- a test of a sum, with one part taken off both sides
-same-test : (k n left : ℕ) → n ≤ left → leb k (left - n) ≡ leb (n + k) left
-same-test k n left h = by (leb (n + k) left) refl
-  where
-    by : (q : Bool) → leb (n + k) left ≡ q → leb k (left - n) ≡ q
-    by true e = le-leb k (left - n) (omega (arith, leb-true (n + k) left e))
-    by false e = lt-leb k (left - n) (omega (arith, leb-false (n + k) left e))
-
--- what is still to come has the room that is left exactly where the whole text had the room at first
-module _ (message words stack₀ : List ℕ) (depth₀ room : ℕ) where
-  abbrev whole₀ : List ℕ
-  whole₀ = toCome message words stack₀ stack₀ depth₀
-
-  pub record Measuring (stack : List ℕ) (depth left : ℕ) : Type 0 where
-    pub walking : Walking message words stack₀ stack depth
-    pub short : length message ≤ messageBound
-    pub fits : leb (length (toCome message words stack₀ stack depth)) left ≡ leb (length whole₀) room
-
-  module _ (stack : List ℕ) (depth left : ℕ) (m : Measuring stack depth left) where
-    pub room-enough : depth ≤ 0 → ltb 0 left ≡ leb (length whole₀) room
-    room-enough h = at-end (rw (end-left message words stack₀ stack depth h) at (m .fits))
-      where
-        at-end : leb 1 left ≡ leb (length whole₀) room → ltb 0 left ≡ leb (length whole₀) room
-        at-end e = e
-
-    module _ (t : Turn) (stack′ : List ℕ) (w : Went message words stack₀ stack depth t stack′) (n : ℕ) (e : n ≡ length (bytesOf message (t .piece))) where
-      pub too-long : left < n → false ≡ leb (length whole₀) room
-      too-long h = sym (lt-leb (length (toCome message words stack₀ stack depth)) left (omega (arith, e, longer message words stack₀ stack depth t stack′ w))) ∙ m .fits
-
-      pub measured : n ≤ left → Measuring stack′ (t .depth) (left - n)
-      measured h = record {
-        walking = w .walking;
-        short = m .short;
-        fits = same-test (length (toCome message words stack₀ stack′ (t .depth))) n left h ∙ ap (λ (k : ℕ). leb k left) (rw e (sym (longer message words stack₀ stack depth t stack′ w))) ∙ m .fits;
-      }
 
 -- what is still to come, stored where the text so far ends, makes the whole text stored at first
 module _ (message words stack₀ output₀ : List ℕ) (depth₀ at₀ : ℕ) where

@@ -14,10 +14,10 @@ use Rattle.format.proofs.Lists.{length-span}
 use Rattle.format.proofs.Sizes.{natural-onto}
 use Rattle.text.specs.Pieces.{integerBytes, bytesOf, Inside}
 use Rattle.text.specs.declared.piece.Piece.{Piece}
-use Rattle.text.specs.declared.piece.Piece.the-variants.{Integer, Quoted, Binary}
+use Rattle.text.specs.declared.piece.Piece.the-variants.{Quoted, Binary}
 use Rattle.text.proofs.Stores.{Stored, stored-both}
 
-length-after : (n : ℕ) (rest : List ℕ) → length (naturalOn n rest) ≡ length (naturalOn n []) + length rest
+pub length-after : (n : ℕ) (rest : List ℕ) → length (naturalOn n rest) ≡ length (naturalOn n []) + length rest
 length-after n rest = ap length (natural-onto n [] rest) ∙ length-append (naturalOn n []) rest
 
 pub length-magnitude : (n : ℕ) → length (integerBytes false n) ≡ length (naturalOn n []) + 1
@@ -66,22 +66,15 @@ module _ (message : List ℕ) (start : Offset) (n : ℕ) where
     unfolding bytesOf
     stored-binary a b = rw (natural-onto n [] (between (code "~") span [])) (stored-both out at (naturalOn n []) (between (code "~") span []) a b)
 
--- how many bytes a piece has, by its kind
-module _ (message : List ℕ) {p : Piece} where
-  module _ {negative : Bool} {n digits : ℕ} (e : p ≡ Integer negative n) (d : digits ≡ length (naturalOn n [])) where
-    pub size-negative : negative ≡ true → digits + 2 ≡ length (bytesOf message p)
-    unfolding bytesOf
-    size-negative h = rw e (omega (arith, d, length-negative n h, length-magnitude n))
+-- how many bytes an integer has
+module _ {negative : Bool} (n : ℕ) {digits : ℕ} (d : digits ≡ length (naturalOn n [])) where
+  pub size-negative : negative ≡ true → digits + 2 ≡ length (integerBytes negative n)
+  size-negative h = omega (arith, d, length-negative n h, length-magnitude n)
 
-    pub size-positive : negative ≡ false → digits + 1 ≡ length (bytesOf message p)
-    unfolding bytesOf
-    size-positive h = rw (e, h) (omega (arith, d, length-magnitude n))
+  pub size-positive : negative ≡ false → digits + 1 ≡ length (integerBytes negative n)
+  size-positive h = rw h (omega (arith, d, length-magnitude n))
 
-  module _ {start : Offset} {n : ℕ} (inside : Inside message p) where
-    pub size-quoted : {quote : ℕ} → p ≡ Quoted quote start n → n + 2 ≡ length (bytesOf message p)
-    unfolding Inside
-    size-quoted {quote} e = rw e (sym (length-quoted message start n quote (rw e at inside)))
-
-    pub size-binary : {digits : ℕ} → p ≡ Binary start n → digits ≡ length (naturalOn n []) → digits + (n + 2) ≡ length (bytesOf message p)
-    unfolding Inside
-    size-binary e d = rw e (omega (arith, d, length-binary message start n (rw e at inside)))
+-- and a span between two quotes
+pub size-quoted : (message : List ℕ) {p : Piece} {start : Offset} {n : ℕ} → Inside message p → {quote : ℕ} → p ≡ Quoted quote start n → n + 2 ≡ length (bytesOf message p)
+unfolding Inside
+size-quoted message {p} {start} {n} inside {quote} e = rw e (sym (length-quoted message start n quote (rw e at inside)))

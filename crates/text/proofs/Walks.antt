@@ -21,6 +21,8 @@ use Rattle.format.proofs.Lists.{length-span}
 use Rattle.format.proofs.TableRows as R
 use Rattle.format.proofs.TableRows.{judged}
 use Rattle.text.specs.declared.piece.Piece.{Piece}
+use Rattle.text.specs.declared.piece.Piece.the-variants.{Integer}
+use Rattle.text.specs.Lengths.{textLength}
 use Rattle.text.specs.Pieces.{integerBytes, bytesOf, Inside}
 use Rattle.text.specs.Walk.{value, rest, item, fields, tail, ampersand, brace, tagged, entry, Next, gives, integerPiece, valueTurn, restTurn, turnOf}
 use Rattle.text.proofs.Turns as turns
@@ -37,6 +39,10 @@ inside-integer : (message : List ℕ) (z : ℤ) → Inside message (integerPiece
 unfolding Inside integerPiece
 inside-integer message (pos n) = tt
 inside-integer message (negsuc n) = tt
+
+pub integer-length : {negative : Bool} {n : ℕ} (z : ℤ) → Integer negative n ≡ integerPiece z → length (integerBytes negative n) ≡ textLength (T.int z)
+unfolding bytesOf
+integer-length z e = ap (λ (p : Piece). length (bytesOf [] p)) e ∙ ap length (integer-bytes [] z)
 
 module _ (message : List ℕ) (rows : List Row) (sound : T (soundRows message rows)) (few : length rows ≤ rowBound) where
   -- what a turn of row i gives: the next bytes, inside the slice, and the stack that goes with what is left

@@ -1,5 +1,5 @@
 -- 01, 'Plain text': the bytes of a piece.
-use Prim.Native.Nat.{ℕ, _+_, _^_, _≤_, _<_}
+use Prim.Native.Nat.{ℕ, _+_, _≤_}
 use Prim.Native.Char.{code}
 use mathlib.Core.Bool.{Bool, true, false}
 use mathlib.Core.List.{List, [], _∷_}
@@ -29,11 +29,3 @@ Inside message (Byte b) = Unit {0}
 Inside message (Integer negative n) = Unit {0}
 Inside message (Quoted quote start n) = start .0 + n ≤ length message
 Inside message (Binary start n) = start .0 + n ≤ length message
-
--- a piece whose span has a length that a row's word holds
-unfoldable pub Small : Piece → Type 0
-Small Nothing = Unit {0}
-Small (Byte b) = Unit {0}
-Small (Integer negative n) = Unit {0}
-Small (Quoted quote start n) = n < 2 ^ 32
-Small (Binary start n) = n < 2 ^ 32

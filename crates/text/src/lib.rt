@@ -15,7 +15,9 @@ use format::bound;
 use format::refusal;
 use table::sound;
 
+mod count;
 mod decimal;
+mod length;
 mod measure;
 mod piece;
 mod span;
@@ -36,7 +38,6 @@ fn write_text(
     stack: &mut [u32],
     output: &mut [u8],
 ) -> Written
-    requires { ⌜ length (now message) ≤ messageBound ⌝ }
     requires { ⌜ T (soundTable (now message) (now rows) (length (now stack)) (root .0)) ⌝ }
     ensures { λ r. ⌜ ((scratch : List ℕ) → writtenAs r (zeroed scratch) (now (output .exit)) ≡ writeText (plain (termAt (now (message .entry)) (rowsOf (length (now (stack .entry))) (now (rows .entry))) (root .0))) scratch (now (output .entry))) ⌝ }
 {

@@ -1,15 +1,18 @@
 //! Pieces of plain text.
 ghost use mathlib.Core.Path.{_≡_};
 ghost use mathlib.Core.Bool.{false};
-ghost use mathlib.Core.List.{List};
-ghost use Prim.Native.Nat.{ℕ, _+_, _≤_, _<_};
+ghost use Prim.Native.Nat.{_+_, _*_, _^_, _≤_, _<_};
 ghost use lib.ListN.{length, set};
 ghost use lib.Seq.{sets};
-ghost use Rattle.text.specs.Pieces.{integerBytes, bytesOf, Inside, Small};
+ghost use Rattle.format.specs.Bits.{fromBits};
+ghost use Rattle.text.specs.Pieces.{integerBytes, bytesOf, Inside};
+ghost use Rattle.text.specs.Walk.{integerPiece};
 use crate::decimal;
 use crate::span;
 use format::Offset;
 use format::byte;
+use table::SIGN_BIT;
+use table::WORD_VALUES;
 
 // A piece of plain text: nothing; a byte; an integer (whether it is negative, and its magnitude) with its blank; a span of the message
 // (where it starts, and how many bytes) between two of a quote; a binary, which is the count of a span and the span.
@@ -21,23 +24,26 @@ pub(crate) enum Piece {
     Binary(Offset, usize),
 }
 
-// How many bytes a piece has. No sum wraps, since a span's length is a row's word.
-pub(crate) fn size(p: Piece) -> usize
-    requires { ⌜ Small p ⌝ }
-    ensures { λ r. ⌜ ((message : List ℕ) → Inside message p → r ≡ length (bytesOf message p)) ⌝ }
+// The sign and the magnitude of an integer.
+pub(crate) struct Signed {
+    pub negative: bool,
+    pub magnitude: u64,
+}
+
+// An integer by the halves of its two's complement.
+pub(crate) fn from_halves(high: u32, low: u32) -> Signed
+    ensures { λ r. ⌜ Piece.Integer (r .negative) (r .magnitude) ≡ integerPiece (fromBits 64 (high * 2 ^ 32 + low)) ⌝ }
 {
-    match p {
-        Piece::Nothing => 0,
-        Piece::Byte(_) => 1,
-        Piece::Integer(negative, n) => {
-            let digits = decimal::digit_count(n);
-            if negative {
-                return digits + 2;
-            }
-            digits + 1
-        }
-        Piece::Quoted(_, _, n) => n + 2,
-        Piece::Binary(_, n) => decimal::digit_count(n as u64) + (n + 2),
+    let bits = (high as u64) * WORD_VALUES + (low as u64);
+    if high < SIGN_BIT {
+        return Signed {
+            negative: false,
+            magnitude: bits,
+        };
+    }
+    Signed {
+        negative: true,
+        magnitude: 18446744073709551615 - bits + 1,
     }
 }
 

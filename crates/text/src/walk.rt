@@ -8,6 +8,7 @@ ghost use Rattle.table.specs.Words.{lastFirst, rowIn};
 ghost use Rattle.table.specs.Words as W;
 ghost use Rattle.text.specs.Walk as S;
 ghost use Rattle.text.specs.Walk.{entry, gives, integerPiece, valueTurn, restTurn, turnOf, turnAt, turned};
+use crate::piece;
 use crate::piece::Piece;
 use format::Offset;
 use format::Row;
@@ -15,8 +16,6 @@ use format::bound;
 use format::byte;
 use format::kind;
 use table::RowWords;
-use table::SIGN_BIT;
-use table::WORD_VALUES;
 
 // What is still to come of a row: all of it, as a value or as a rest; of a list cell its item; of a tuple, or of a tuple's rest, the
 // other fields; then what closes a list item, a tuple, a tag.
@@ -97,11 +96,8 @@ fn put_two(
 fn integer(high: u32, low: u32) -> Piece
     ensures { λ r. ⌜ r ≡ integerPiece (fromBits 64 (high * 2 ^ 32 + low)) ⌝ }
 {
-    let bits = (high as u64) * WORD_VALUES + (low as u64);
-    if high < SIGN_BIT {
-        return Piece::Integer(false, bits);
-    }
-    Piece::Integer(true, 18446744073709551615 - bits + 1)
+    let z = piece::from_halves(high, low);
+    Piece::Integer(z.negative, z.magnitude)
 }
 
 // Row `row` as a value.

@@ -37,7 +37,7 @@ write-text-requires : tie.Need-write-text-requires
 write-text-requires c κs =
     let at = c .before .before in
     let p = call (at .before) .pre in
-    (p .0, rw (length-take-le _ _ (p .1)) (subst T (sym (judged at)) tt))
+    rw (length-take-le _ _ (p .1)) (subst T (sym (judged at)) tt)
 
 same-length : tie.Need-same-length
 same-length c = search needs

@@ -34,7 +34,7 @@ store-text-requires : tie.Need-store-text-requires
 store-text-requires c κs =
     let at = c .before .before in
     let fitted = at .before .before .before in
-    rw (fitted .fits2 .kept .1 .1 .1 .0) (call fitted .pre .1, leb-true _ _ (room at))
+    rw (fitted .fits2 .kept .1 .1 .1 .0) (call fitted .pre, leb-true _ _ (room at))
 
 same-length-2 : tie.Need-same-length-2
 same-length-2 c = search needs

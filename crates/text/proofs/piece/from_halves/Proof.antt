@@ -1,9 +1,9 @@
--- `text::walk::integer` meets its contract
+-- `text::piece::from_halves` meets its contract.
 use native.Mathlib.Omega.{arith}
 use Rattle.text.proofs.Turns.{positive, negative}
 use borrow.Author.Needs.{needs}
-use Rattle.text.proofs.walk.integer.Statement.{statement}
-use Rattle.text.proofs.walk.integer.Tie as tie
+use Rattle.text.proofs.piece.from_halves.Statement.{statement}
+use Rattle.text.proofs.piece.from_halves.Tie as tie
 
 mul-bits : tie.Need-mul-bits
 mul-bits c = search needs
@@ -23,5 +23,5 @@ add-t5 c = search needs
 returns-2 : tie.Need-returns-2
 returns-2 c = negative _ _ (c .if1 .left) (omega arith)
 
-pub integer-spec : {M : Type 1} → statement M
-integer-spec = tie.close (tie.spec mul-bits add-bits returns sub-t4 add-t5 returns-2)
+pub from-halves-spec : {M : Type 1} → statement M
+from-halves-spec = tie.close (tie.spec mul-bits add-bits returns sub-t4 add-t5 returns-2)

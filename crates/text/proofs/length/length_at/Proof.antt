@@ -1,0 +1,27 @@
+-- `text::length::length_at` meets its contract: a word read, or past them all.
+use mathlib.Core.Path.{refl, sym}
+use native.Mathlib.Omega.{arith}
+use denote.Ref.{now}
+use lib.ListN.{List·getD-eq-default}
+use borrow.Author.Needs.{needs}
+use Rattle.text.proofs.length.length_at.Statement.{statement}
+use Rattle.text.proofs.length.length_at.Tie as tie
+
+mul-result : tie.Need-mul-result
+mul-result c = search needs
+
+shared-slice-read-result : tie.Need-shared-slice-read-result
+shared-slice-read-result c = search needs
+
+cast-result : tie.Need-cast-result
+cast-result c = omega (arith, c .shared-slice-known .given (c .before .before .args .row))
+
+returns : tie.Need-returns
+returns c = (refl, omega (arith, c .shared-slice-known .given (c .before .before .args .row)))
+
+returns-2 : tie.Need-returns-2
+returns-2 c = (sym (List·getD-eq-default (now (c .before .args .lengths)) 0 (c .if1 .left)), omega arith)
+
+pub length-at-spec : {M : Type 1} → statement M
+length-at-spec =
+    tie.close (tie.spec mul-result shared-slice-read-result cast-result returns returns-2)
