@@ -8,7 +8,7 @@ use native.Mathlib.Omega.{arith}
 use lib.ListN.{length, drop, getD}
 use lib.Seq.{drop-cons}
 use lib.Dec.{T, eqb, leb, leb→le}
-use borrow.Author.Tests.{eq-eqb, ne-eqb, eqb-true}
+use borrow.Author.Tests.{eq-eqb, eqb-true}
 use Rattle.format.specs.Byte as B
 use Rattle.format.specs.Byte.{Class, Entry, _is_, specials, classIn, classOf, classCode, hasClass}
 use Rattle.format.proofs.Tests.{left-of, right-of}
@@ -25,10 +25,6 @@ module _ (k : Class) (b : ℕ) {code : ℕ} (e : code ≡ classCode (classOf b))
   pub has : code ≡ classCode k → hasClass k b ≡ true
   unfolding hasClass
   has h = eq-eqb _ _ (sym e ∙ h)
-
-  pub has-not : (code ≡ classCode k → ⊥) → hasClass k b ≡ false
-  unfolding hasClass
-  has-not h = ne-eqb _ _ (λ q. h (e ∙ q))
 
 abbrev inDigits : ℕ → Bool
 inDigits b = leb 48 b && leb b 57
