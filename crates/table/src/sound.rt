@@ -232,11 +232,12 @@ fn sound_rows(message: &[u8], rows: &[u32], used: u32) -> bool
 pub fn sound_table(message: &[u8], rows: &[u32], used: u32, root: Row) -> bool
     ensures { λ r. ⌜ r ≡ soundTable (now (message .entry)) (now (rows .entry)) used (root .0) ⌝ }
 {
-    if !count_fits(rows, used) {
+    // each slice is lent anew, so that the compiler can pass it in registers
+    if !count_fits(&rows[..], used) {
         return false;
     }
     if !root_among(used, root) {
         return false;
     }
-    sound_rows(message, rows, used)
+    sound_rows(&message[..], &rows[..], used)
 }
