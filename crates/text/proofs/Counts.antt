@@ -5,6 +5,7 @@ use mathlib.Core.Path.{_≡_, refl, ap, sym, _∙_}
 use mathlib.Core.Bool.{Bool, true, false}
 use mathlib.Core.List.{List, [], _∷_, _++_}
 use native.Mathlib.Nat.{pow-suc, one-le-pow, pow-le-pow-right}
+use native.Mathlib.Numerals.{add-one}
 use native.Mathlib.Omega.{arith}
 use lib.ListN.{length, getD, set, length-set}
 use lib.Dec.{T, leb, ltb}
@@ -15,10 +16,19 @@ use Rattle.format.specs.Sound.{soundRows, soundTable}
 use Rattle.format.specs.Text.{plain}
 use Rattle.format.proofs.TableRows.{length-rows, Passed, passed}
 use Rattle.table.specs.Words.{lastFirst, rowIn}
-use Rattle.table.proofs.Rows.{row-of, length-lastFirst}
+use Rattle.table.proofs.Rows.{row-of, pushed, length-lastFirst}
 use Rattle.text.specs.Lengths.{textLength, named, ownLength, total, rowLength}
 use Rattle.text.proofs.Lengths.{text-after, by-named, right}
-use Rattle.text.proofs.Turns.{one-put}
+
+-- one row or two in place of the top
+module _ (stack : List ℕ) (top : ℕ) where
+  pub one-put : (e : ℕ) → top < length stack → lastFirst (set stack top e) (top + 1) ≡ e ∷ lastFirst stack top
+  one-put e h = rw add-one (pushed stack top e h)
+
+  pub two-put : (e f : ℕ) → top + 1 < length stack → lastFirst (set (set stack top f) (top + 1) e) (top + 2) ≡ e ∷ f ∷ lastFirst stack top
+  two-put e f h =
+      let two : top + 2 ≡ suc (top + 1) = omega arith in
+      rw two (pushed (set stack top f) (top + 1) e (rw length-set h) ∙ ap (λ (l : List ℕ). e ∷ l) (one-put f (omega arith)))
 
 -- what is left to do: a row weighs more than the two that it names
 unfoldable pub work : List ℕ → ℕ

@@ -23,9 +23,12 @@ use Rattle.format.proofs.TableRows as R
 use Rattle.format.proofs.TableRows.{length-rows, judged}
 use Rattle.table.specs.Words.{rowIn}
 use Rattle.table.proofs.Rows.{row-of}
-use Rattle.text.specs.Lengths.{textLength, named, ownLength, total, rowLength, longest, capped, lengthIn}
-use Rattle.text.proofs.Pieces.{length-after}
-use Rattle.text.proofs.Turns.{is-tag}
+use Rattle.text.specs.Lengths.{textLength, named, below, ownLength, total, rowLength, longest, capped, lengthIn}
+use Rattle.text.proofs.Leaves.{length-after, length-between, length-quoted}
+
+-- a tag is none of the others
+is-tag : {k : ℕ} → k ≡ tagKind → None 1 8 k
+is-tag e = ((((((((tt, λ n. omega arith), λ n. omega arith), λ n. omega arith), λ n. omega arith), λ n. omega arith), λ n. omega arith), λ n. omega arith), λ n. omega arith)
 
 -- a row's own bytes, by its kind
 module _ (r : Row) where
@@ -98,11 +101,15 @@ module _ (r : Row) where
     unfolding rowLength total
     tag-length k = rw (names-inner k, own-tag (is-tag k)) (omega arith)
 
+    -- where it names none
     pub leaf-length : named r ≡ [] → rowLength lengthOf r ≡ ownLength r
     unfolding rowLength total
     leaf-length e = rw e (omega arith)
 
--- with the rows that it names written out: how many there are, and what they stand above
+-- with the rows that it names written out: they are below n, how many there are, and what they stand above
+pub names-below : (r : Row) {names : List ℕ} (n : ℕ) → named r ≡ names → below n (named r) → below n names
+names-below r n e h = rw e at h
+
 pub names-room : (r : Row) {names : List ℕ} (top : ℕ) {n : ℕ} → named r ≡ names → top + length (named r) ≤ n → top + length names ≤ n
 names-room r top e h = rw e at h
 
@@ -112,9 +119,6 @@ names-onto r below e = rw e
 -- a text in front of a rest
 pub text-after : (t : Term) (rest : List ℕ) → length (textOn t rest) ≡ textLength t + length rest
 text-after t rest = ap length (text-onto t [] rest) ∙ length-append (textOn t []) rest
-
-between-length : (quote : ℕ) (bytes : List ℕ) → length (between quote bytes []) ≡ length bytes + 2
-between-length quote bytes = omega (arith, length-append bytes (quote ∷ []))
 
 -- a term's length by its parts'
 module _ (t : Term) (ts : Terms) where
@@ -128,7 +132,7 @@ module _ (t : Term) (ts : Terms) where
 
 tagged-length : (b : List ℕ) (t : Term) → textLength (T.tag b t) ≡ textLength t + (length b + 2)
 unfolding textOn
-tagged-length b t = omega (arith, text-after t (between (code "`") b []), between-length (code "`") b)
+tagged-length b t = omega (arith, text-after t (between (code "`") b []), length-between (code "`") b)
 
 -- the rows before row i have their lengths in their words
 abbrev pub Measured : List ℕ → List Row → List ℕ → ℕ → Type 0
@@ -140,7 +144,7 @@ module _ (message : List ℕ) (rows : List Row) (sound : T (soundRows message ro
 
   -- a list is one of its items, a tuple one of its fields
   module _ (j : ℕ) (l : j < length rows) where
-    list-again : T (isListKind (rowAt rows j .kind)) → T.list (itemsOf (term j)) ≡ term j
+    pub list-again : T (isListKind (rowAt rows j .kind)) → T.list (itemsOf (term j)) ≡ term j
     unfolding isListKind itemsOf
     list-again h = by (eqb (rowAt rows j .kind) nilKind) (eqb (rowAt rows j .kind) consKind) refl refl h
       where
@@ -196,7 +200,7 @@ module _ (message : List ℕ) (rows : List Row) (sound : T (soundRows message ro
     leaf x e none own q = ap textLength e ∙ q ∙ sym (leaf-length r _ none ∙ own)
 
     quoted : (quote : ℕ) → r .first + r .second ≤ length message → length (between quote span []) ≡ r .second + 2
-    quoted quote h = omega (arith, between-length quote span, length-span message (r .first) (r .second) h)
+    quoted = length-quoted message (r .first) (r .second)
 
     counted : r .first + r .second ≤ length message → textLength (T.binary span) ≡ length (naturalOn (r .second) []) + (r .second + 2)
     unfolding textOn
@@ -260,6 +264,12 @@ module _ (message words : List ℕ) (used : ℕ) where
     pub row-number : i < length lengths → i < rowBound
     unfolding rowRoom
     row-number h = omega (arith, m .fits, m .same)
+
+    -- the rows that row i names have words
+    pub names-before : i < length lengths → {r : Row} → r ≡ rowIn words i → below (length lengths) (named r)
+    names-before h read =
+        let row = read ∙ row-of words used i (m .fits) (omega (arith, m .same)) in
+        rw row (by-named message (rowsOf used words) (m .sound) i (omega (arith, m .same, length-rows used words)) (below (length lengths)) tt (λ a p. (omega arith, tt)) (λ a b p q. (omega arith, (omega arith, tt))))
 
     pub next-row : i < length lengths → {r : Row} {n word : ℕ} → r ≡ rowIn words i → n ≡ rowLength (lengthIn lengths) r → word ≡ capped n → Measuring (set lengths i word) (i + 1)
     next-row h {r} {n} {word} read e w = record {

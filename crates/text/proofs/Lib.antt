@@ -6,18 +6,26 @@ pub mod Stores
 pub mod Decimals
 -- the bytes of a span one by one
 pub mod Spans
--- each piece
-pub mod Pieces
--- a turn of the walk, by what is still to come and by the row's kind
-pub mod Turns
+-- the texts of leaves
+pub mod Leaves
 -- the lengths of rows' texts
 pub mod Lengths
 -- a plain text counted row by row
 pub mod Counts
--- what the walk's stack stands for, and that a turn gives the next bytes of it
-pub mod Pending
-pub mod Walks
--- the walk from the root to the end
+-- a text stored part by part
+pub mod Partly
+-- the frames of the walk, and the texts of rows by the rows that they name
+pub mod Frames
+-- from a row down to its first leaf
+pub mod Entering
+-- the fields of a tuple
+pub mod Fields
+-- the item of a list cell
+pub mod Items
+-- a turn of a frame
+pub mod Turns
+-- the turns one after another, and the walk from the root to the end
 pub mod Passes
+pub mod Storing
 -- what has to be answered
 pub mod Answered

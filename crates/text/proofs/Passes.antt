@@ -1,176 +1,110 @@
--- The walk from the root to the end, over a sound table: it begins with the whole plain text, and each turn takes its bytes off.
+-- The turns of the frames one after another, and the walk from the root to the end.
 use Prim.Native.Nat.{ℕ, suc, _+_, _-_, _≤_, _<_}
-use Prim.Native.Char.{code}
-use mathlib.Core.Path.{_≡_, refl, ap, sym, _∙_}
-use mathlib.Core.List.{List, [], _∷_, _++_}
-use native.Mathlib.Nat.{zero-add}
+use mathlib.Core.Path.{_≡_, refl, ap, _∙_}
+use mathlib.Core.List.{List, _∷_}
 use native.Mathlib.Omega.{arith}
-use lib.ListN.{length, drop, getD, set, length-set, length-append}
+use lib.ListN.{length, getD}
 use lib.Dec.{T}
-use lib.Seq.{sets, length-sets, sets-eq}
-use Rattle.format.specs.Bound.{rowBound}
-use Rattle.format.specs.Rows.{rowAt, rowsOf, rowRoom, termAt}
-use Rattle.format.specs.Sound.{soundRows, soundTable}
-use Rattle.format.specs.Text.{plain}
-use Rattle.format.proofs.TableRows.{length-rows, Passed, passed}
-use Rattle.table.specs.Words.{lastFirst, rowIn}
-use Rattle.table.proofs.Rows.{row-of, length-lastFirst}
-use Rattle.text.specs.declared.walk.Turn.{Turn}
-use Rattle.text.specs.Pieces.{bytesOf, Inside}
-use Rattle.text.specs.Walk.{entry, phaseOf, rowOf, Next, turnAt, turned}
-use Rattle.text.proofs.Stores.{stores}
-use Rattle.text.proofs.Turns.{one-put}
-use Rattle.text.proofs.Pending as P
-use Rattle.text.proofs.Pending.{work, entryOn, pending, pending-entry, Falling, few-entries, its-phase, its-row, above-inside}
-use Rattle.text.proofs.Walks.{Gives, turn-gives}
+use Rattle.format.specs.Rows.{rowsOf, rowRoom}
+use Rattle.format.specs.Sound.{soundRows}
+use Rattle.format.specs.declared.Row as D
+use Rattle.table.specs.Words.{lastFirst}
+use Rattle.table.proofs.Rows.{length-lastFirst}
+use Rattle.text.specs.declared.walk.After.{After}
+use Rattle.text.specs.declared.walk.After.the-variants.{Into, Done}
+use Rattle.text.specs.declared.walk.Rest.{Rest}
+use Rattle.text.specs.declared.walk.Rest.the-variants as R
+use Rattle.text.specs.Walk.{frameRow, pending, Falling, Room, placeAfter, comingAfter, ReadyAfter, placeRest, comingRest, ReadyRest, Partly}
+use Rattle.text.proofs.Partly.{part-none, part-then, part-room}
+use Rattle.text.proofs.Frames.{above-inside}
+use Rattle.text.proofs.Fields.{Turned}
 
--- words stack₀: the table, and the stack as the walk begins; it has a word for each row used
-module _ (message words stack₀ : List ℕ) where
-  -- what is still to come
-  abbrev pub toCome : List ℕ → ℕ → List ℕ
-  toCome stack depth = pending message (rowsOf (length stack₀) words) (lastFirst stack depth)
+-- the top frame of a stack, and those below it
+pub top-first : (stack : List ℕ) (frames : ℕ) → 0 < frames → lastFirst stack frames ≡ getD stack (frames - 1) 0 ∷ lastFirst stack (frames - 1)
+unfolding lastFirst
+top-first stack frames h = let e : frames ≡ suc (frames - 1) = omega arith in ap (lastFirst stack) e
 
-  -- the walk goes on with so many entries on the stack
-  pub record Walking (stack : List ℕ) (depth : ℕ) : Type 0 where
-    pub sound : T (soundRows message (rowsOf (length stack₀) words))
-    pub fits : length stack₀ ≤ rowRoom words
-    pub same : length stack ≡ length stack₀
-    pub falls : Falling message (rowsOf (length stack₀) words) (lastFirst stack depth)
+-- the stack, the output, how many frames there are and where the text goes on, at first
+module _ (message words stack₀ output₀ : List ℕ) (frames₀ end₀ : ℕ) where
+  abbrev used : ℕ
+  used = length stack₀
 
-  -- a turn: its piece, and the walk after it
-  pub record Went (stack : List ℕ) (depth : ℕ) (t : Turn) (stack′ : List ℕ) : Type 0 where
-    pub text : toCome stack depth ≡ bytesOf message (t .piece) ++ toCome stack′ (t .depth)
-    pub inside : Inside message (t .piece)
-    pub walking : Walking stack′ (t .depth)
-    pub less : work (lastFirst stack′ (t .depth)) < work (lastFirst stack depth)
-
-  pub longer : (stack : List ℕ) (depth : ℕ) (t : Turn) (stack′ : List ℕ) → Went stack depth t stack′ → length (toCome stack depth) ≡ length (bytesOf message (t .piece)) + length (toCome stack′ (t .depth))
-  longer stack depth t stack′ w = rw (w .text) (length-append (bytesOf message (t .piece)) (toCome stack′ (t .depth)))
-
-  module _ (stack : List ℕ) (depth : ℕ) (w : Walking stack depth) where
-    few : length (rowsOf (length stack₀) words) ≤ rowBound
-    unfolding rowRoom
-    few = omega (arith, length-rows (length stack₀) words, w .fits)
-
-    -- no more entries than words
-    pub depth-fits : depth ≤ length stack
-    depth-fits = omega (arith, few-entries message (rowsOf (length stack₀) words) (lastFirst stack depth) (w .falls), length-rows (length stack₀) words, length-lastFirst stack depth, w .same)
-
-    module _ (h : 0 < depth) where
-      abbrev top : ℕ
-      top = getD stack (depth - 1) 0
-
-      abbrev below : List ℕ
-      below = lastFirst stack (depth - 1)
-
-      top-first : lastFirst stack depth ≡ top ∷ below
-      unfolding lastFirst
-      top-first = let e : depth ≡ suc (depth - 1) = omega arith in ap (lastFirst stack) e
-
-      falling : Falling message (rowsOf (length stack₀) words) (top ∷ below)
-      falling = rw top-first at (w .falls)
-
-      given : Gives message (rowsOf (length stack₀) words) (w .sound) few (phaseOf top) (rowOf top) below (turnAt words stack (depth - 1))
-      unfolding turnAt
-      given =
-          let found : (j : ℕ) → j < length (rowsOf (length stack₀) words) → rowIn words j ≡ rowAt (rowsOf (length stack₀) words) j
-          = λ j h. row-of words (length stack₀) j (w .fits) (omega (arith, length-rows (length stack₀) words)) in
-          let inside : rowOf top < length (rowsOf (length stack₀) words) = omega (arith, above-inside message (rowsOf (length stack₀) words) (rowOf top) below (falling .1)) in
-          rw (found (rowOf top) inside) (turn-gives message (rowsOf (length stack₀) words) (w .sound) few (rowIn words) found (rowOf top) below (falling .1) (phaseOf top) (falling .0))
-
-      -- there is room for what the turn leaves
-      pub turn-fits : (depth - 1 < length stack) × (length (turnAt words stack (depth - 1) .stack) ≤ length stack)
-      turn-fits = (omega (arith, depth-fits), omega (arith, few-entries message (rowsOf (length stack₀) words) (turnAt words stack (depth - 1) .stack) (given .onward .falls), length-rows (length stack₀) words, w .same))
-
-      pub went : (t : Turn) (stack′ : List ℕ) → length stack′ ≡ length stack → turned t stack′ ≡ turnAt words stack (depth - 1) → Went stack depth t stack′
-      unfolding turned pending work
-      went t stack′ k e =
-          let piece = ap (λ (n : Next). n .piece) e in
-          let left : lastFirst stack′ (t .depth) ≡ turnAt words stack (depth - 1) .stack = ap (λ (n : Next). n .stack) e in
-          record {
-            text = rw (top-first, piece, left) (given .text);
-            inside = rw piece (given .inside);
-            walking = record { sound = w .sound; fits = w .fits; same = k ∙ w .same; falls = rw left (given .onward .falls) };
-            less = rw (top-first, left) (given .onward .less);
-          }
-
-  -- at the end only `$` is still to come
-  pub end-left : (stack : List ℕ) (depth : ℕ) → depth ≤ 0 → toCome stack depth ≡ code "$" ∷ []
-  unfolding lastFirst pending
-  end-left stack depth h = let e : depth ≡ 0 = omega arith in rw e
-
--- the walk begins with the whole text
-module _ (message words stack : List ℕ) (root : ℕ) (sound : T (soundTable message words (length stack) root)) where
-  -- what the test of the table says
-  tested : Passed message words (length stack) root
-  tested = passed message words (length stack) root sound
-
-  pub some-word : root < length stack
-  some-word = tested .among
-
-  bound : root < rowBound
-  unfolding rowRoom
-  bound = omega (arith, tested .fits, tested .among)
-
-  begun : lastFirst (set stack 0 (entry 0 root)) 1 ≡ entry 0 root ∷ []
-  unfolding lastFirst
-  begun = one-put stack 0 (entry 0 root) (omega (arith, some-word))
-
-  module _ (stack₀ : List ℕ) (e : stack₀ ≡ set stack 0 (entry 0 root)) where
-    same : length stack₀ ≡ length stack
-    same = rw e (length-set stack 0 (entry 0 root))
-
-    pub begins : Walking message words stack₀ stack₀ 1
-    begins = record {
-      sound = rw same (tested .rows);
-      fits = rw same (tested .fits);
-      same = refl;
-      falls = rw (e, begun, its-phase 0 root bound, its-row 0 root bound) (P.as-value refl, omega (arith, some-word, length-rows (length (set stack 0 (entry 0 root))) words, length-set stack 0 (entry 0 root)));
-    }
-
-    pub whole : toCome message words stack₀ stack₀ 1 ≡ plain (termAt message (rowsOf (length stack) words) root)
-    unfolding plain pending entryOn
-    whole = rw (same, e, begun) (pending-entry message (rowsOf (length stack) words) 0 root [] bound)
-
--- what is still to come, stored where the text so far ends, makes the whole text stored at first
-module _ (message words stack₀ output₀ : List ℕ) (depth₀ at₀ : ℕ) where
   abbrev text₀ : List ℕ
-  text₀ = toCome message words stack₀ stack₀ depth₀
+  text₀ = pending message words used (lastFirst stack₀ frames₀)
 
-  pub record Storing (stack output : List ℕ) (depth at : ℕ) : Type 0 where
-    pub walking : Walking message words stack₀ stack depth
-    pub same : length output ≡ length output₀
-    pub fits : at₀ + length text₀ ≤ length output₀
-    pub count : at + length (toCome message words stack₀ stack depth) ≡ at₀ + length text₀
-    pub text : sets output at (toCome message words stack₀ stack depth) ≡ sets output₀ at₀ text₀
+  -- so many frames are still to come
+  pub record Rising (stack output : List ℕ) (frames end : ℕ) : Type 0 where
+    pub fits : used ≤ rowRoom words
+    pub sound : T (soundRows message (rowsOf used words))
+    pub same : length stack ≡ used
+    pub same-output : length output ≡ length output₀
+    pub room : end + length (pending message words used (lastFirst stack frames)) ≤ length output
+    pub falls : Falling message words used (lastFirst stack frames)
+    pub part : Partly output₀ end₀ text₀ output end (pending message words used (lastFirst stack frames))
 
-  module _ (stack output : List ℕ) (depth at : ℕ) (s : Storing stack output depth at) where
-    module _ (h : depth ≤ 0) where
-      one-left : at + 1 ≡ at₀ + length text₀
-      one-left = rw (end-left message words stack₀ stack depth h) at (s .count)
+  pub rises : Falling message words used (lastFirst stack₀ frames₀) → Room message words used text₀ output₀ end₀ → Rising stack₀ output₀ frames₀ end₀
+  rises falls room = record {
+    fits = room .fits;
+    sound = room .sound;
+    same = refl;
+    same-output = refl;
+    room = room .room;
+    falls = falls;
+    part = part-none output₀ end₀ text₀;
+  }
 
-      pub last-place : at < length output
-      last-place = omega (arith, one-left, s .fits, s .same)
+  -- what the turns leave
+  abbrev pub Risen : Rest → List ℕ → List ℕ → Type 0
+  Risen r stack output = ReadyRest message words used r stack × Partly output₀ end₀ text₀ output (placeRest message words used r) (comingRest message words used r stack)
 
-      pub all-stored : (set output at (code "$") ≡ sets output₀ at₀ text₀) × (at + 1 ≡ at₀ + length text₀)
-      all-stored = (rw (end-left message words stack₀ stack depth h) at (s .text), one-left)
+  module _ (stack output : List ℕ) (frames end : ℕ) (w : Rising stack output frames end) where
+    module _ (h : 0 < frames) where
+      abbrev top : ℕ
+      top = frames - 1
 
-    module _ (t : Turn) (stack′ : List ℕ) (w : Went message words stack₀ stack depth t stack′) where
-      pub piece-fits : at + length (bytesOf message (t .piece)) ≤ length output
-      piece-fits = omega (arith, longer message words stack₀ stack depth t stack′ w, s .count, s .fits, s .same)
+      abbrev stacked : List ℕ
+      stacked = getD stack top 0 ∷ lastFirst stack top
 
-      pub stored : (output′ : List ℕ) (at′ : ℕ) → (output′ ≡ sets output at (bytesOf message (t .piece))) × (at′ ≡ at + length (bytesOf message (t .piece))) → Storing stack′ output′ (t .depth) at′
-      stored output′ at′ e = record {
-        walking = w .walking;
-        same = rw (e .0) (length-sets output at (bytesOf message (t .piece))) ∙ s .same;
-        fits = s .fits;
-        count = omega (arith, longer message words stack₀ stack depth t stack′ w, e .1, s .count);
-        text = rw (e .0, e .1) (stores output at (bytesOf message (t .piece)) (toCome message words stack₀ stack′ (t .depth)) ∙ ap (sets output at) (sym (w .text)) ∙ s .text);
-      }
+      falls-first : Falling message words used stacked
+      falls-first = rw (top-first stack frames h) at (w .falls)
 
--- a text stored from the first byte on
-pub at-head : (output text₀ text left : List ℕ) {n : ℕ} → text₀ ≡ text → length text ≤ length output → (left ≡ sets output 0 text₀) × (n ≡ 0 + length text₀) → (left ≡ text ++ drop n output) × (n ≡ length text)
-at-head output text₀ text left e h s =
-    let count : length text₀ ≡ length text = ap length e in
-    let n = s .1 ∙ zero-add (length text₀) ∙ count in
-    (s .0 ∙ rw (e, n) (sets-eq text output 0 (omega arith) ∙ rw zero-add), n)
+      room-first : end + length (pending message words used stacked) ≤ length output
+      room-first = rw (top-first stack frames h) at (w .room)
+
+      pub turn-fits : (top < length stack) × (Falling message words (length stack) stacked × Room message words (length stack) (pending message words (length stack) stacked) output end)
+      turn-fits =
+          let few : top < used = omega (arith, above-inside message words used (frameRow (getD stack top 0)) (lastFirst stack top) (falls-first .1), length-lastFirst stack top) in
+          rw (w .same) (few, (falls-first, record { fits = w .fits; sound = w .sound; room = room-first }))
+
+      -- the turn's answer
+      module _ (a : After) (stack′ output′ : List ℕ) (k : length stack′ ≡ length stack) (l : length output′ ≡ length output)
+          (t : Turned message words (length stack) top output end (pending message words (length stack) stacked) a stack′ output′) where
+        turned : Turned message words used top output end (pending message words used (lastFirst stack frames)) a stack′ output′
+        turned = rw (top-first stack frames h) (rw (w .same) at t)
+
+        part : Partly output₀ end₀ text₀ output′ (placeAfter message words used a) (comingAfter message words used a stack′ top)
+        part = part-then output₀ end₀ text₀ (w .part) (turned .1)
+
+        room-left : placeAfter message words used a + length (comingAfter message words used a stack′ top) ≤ length output′
+        room-left = part-room output end (pending message words used (lastFirst stack frames)) (turned .1) l (w .room)
+
+        pub turn-done : (next : ℕ) → a ≡ Done next → Rising stack′ output′ top next
+        unfolding ReadyAfter placeAfter comingAfter
+        turn-done next e = record {
+          fits = w .fits;
+          sound = w .sound;
+          same = k ∙ w .same;
+          same-output = l ∙ w .same-output;
+          room = rw e at room-left;
+          falls = rw e at (turned .0);
+          part = rw e at part;
+        }
+
+        pub turn-into : (row : D.Row) (next : ℕ) → a ≡ Into row next → Risen (R.Into row frames next) stack′ output′
+        unfolding ReadyAfter placeAfter comingAfter ReadyRest placeRest comingRest
+        turn-into row next e = rw (top-first stack′ frames h) (rw e at (turned .0), rw e at part)
+
+    -- no frame is left
+    pub none-left : frames ≤ 0 → Risen (R.Whole end) stack output
+    unfolding ReadyRest placeRest comingRest lastFirst
+    none-left h = let z : frames ≡ 0 = omega arith in (tt, rw z at (w .part))

@@ -1,5 +1,5 @@
 -- 01, 'Plain text': how many bytes a row's text has, from the lengths of the texts of the rows that it names.
-use Prim.Native.Nat.{ℕ, _+_, min}
+use Prim.Native.Nat.{ℕ, _+_, _<_, min}
 use mathlib.Core.Bool.{cond}
 use mathlib.Core.List.{List, [], _∷_}
 use lib.ListN.{length, getD}
@@ -19,6 +19,11 @@ named r =
     cond (eqb (r .kind) consKind) (r .first ∷ r .second ∷ [])
     (cond (eqb (r .kind) fieldKind) (r .first ∷ r .second ∷ [])
     (cond (eqb (r .kind) tagKind) (r .third ∷ []) []))
+
+-- they are all below n
+abbrev pub below : ℕ → List ℕ → Type 0
+below n [] = Unit {0}
+below n (i ∷ rows) = (i < n) × below n rows
 
 -- the other bytes. Integer: decimal and one blank; atom, string: bytes and two quotes; binary: count, bytes and two `~`; list: `#`, and `&` for each cell;
 -- tuple: two braces; tag: bytes and two quotes

@@ -2,6 +2,6 @@
 pub mod Answers
 -- the lengths of the rows' texts
 pub mod Lengths
--- the pieces of plain text, and the walk over the rows that gives them
-pub mod Pieces
+-- the texts of leaves, and the walk over the rows that goes from leaf to leaf
+pub mod Leaves
 pub mod Walk

@@ -1,112 +1,111 @@
--- The walk over the rows that gives a plain text piece by piece. Its stack holds an entry for each row begun and not yet done, the rows falling towards
--- the top, so that a word for each row used is room enough.
-use Prim.Native.Nat.{ℕ, suc, _+_, _*_, _/_, _%_}
+-- The walk over the rows, which stores a plain text from leaf to leaf. A frame is a row of which something is still to come. The frames lie on a stack, their
+-- rows falling towards its top, so that a word for each row used is room enough.
+use Prim.Native.Nat.{ℕ, _+_, _≤_, _<_, _%_}
 use Prim.Native.Char.{code}
-use mathlib.Core.Bool.{true, false, cond}
+use mathlib.Core.Path.{_≡_}
+use mathlib.Core.Bool.{cond}
 use mathlib.Core.List.{List, [], _∷_}
-use lib.IntN.{ℤ, pos, negsuc}
-use lib.ListN.{getD}
-use lib.Dec.{eqb}
+use lib.ListN.{length, getD}
+use lib.Seq.{sets}
+use lib.Dec.{T, eqb, ltb}
 use Rattle.format.specs.Bound.{rowBound}
-use Rattle.format.specs.Rows.{Row, integerKind, atomKind, stringKind, binaryKind, nilKind, consKind, endKind, fieldKind, integerOfRow}
-use Rattle.table.specs.Words.{lastFirst, rowIn}
-use Rattle.format.specs.declared.Offset.{Offset}
-use Rattle.text.specs.declared.piece.Piece.{Piece}
-use Rattle.text.specs.declared.piece.Piece.the-variants.{Nothing, Byte, Integer, Quoted, Binary}
-use Rattle.text.specs.declared.walk.Turn.{Turn}
+use Rattle.format.specs.Text.{between, textOn, fieldsOn}
+use Rattle.format.specs.Rows.{Row, rowAt, rowsOf, rowRoom, spanOf, fieldsOf, termAt, consKind, fieldKind, tagKind}
+use Rattle.format.specs.Sound.{soundRows}
+use Rattle.table.specs.Words.{lastFirst}
+use Rattle.text.specs.declared.walk.After.{After}
+use Rattle.text.specs.declared.walk.After.the-variants.{Into, Done}
+use Rattle.text.specs.declared.walk.Rest.{Rest}
+use Rattle.text.specs.declared.walk.Rest.the-variants as R
 
--- what is still to come of a row: all of it, as a value
-abbrev pub value : ℕ
-value = 0
+-- a frame is a row's number, to which the bound is added where the row is a list cell whose item is begun
+unfoldable pub frameRow : ℕ → ℕ
+frameRow e = e % rowBound
 
--- or as the rest of a list or tuple, whose opening and closing bytes are not its own
-abbrev pub rest : ℕ
-rest = 1
+-- what stands before the first of the rows that a row names: `{` where that is a tuple's field
+unfoldable pub openBytes : Row → List ℕ
+openBytes r = cond (eqb (r .kind) fieldKind) (code "{" ∷ []) []
 
--- of a list cell, whose rest is done: its item and `&`
-abbrev pub item : ℕ
-item = 2
+-- the row whose text comes first: a tuple's field, a list cell's rest, a tag's inner row
+unfoldable pub firstNamed : Row → ℕ
+firstNamed r = cond (eqb (r .kind) fieldKind) (r .first) (cond (eqb (r .kind) consKind) (r .second) (r .third))
 
--- of a tuple, whose first field is done: its rest and `}`
-abbrev pub fields : ℕ
-fields = 3
+-- the first `used` rows of a table, of a message
+module _ (message words : List ℕ) (used : ℕ) where
+  abbrev pub rows : List Row
+  rows = rowsOf used words
 
--- of a tuple's rest, whose field is done: its rest
-abbrev pub tail : ℕ
-tail = 4
+  -- what is still to come of a frame, in front of what comes after it. Of a list cell, whose rest is stored: its item, unless that is begun, and `&`; of a
+  -- tuple's field, which is stored: the fields after it and `}`; of a tag, whose inner text is stored: the tag
+  unfoldable pub frameOn : ℕ → List ℕ → List ℕ
+  frameOn e more =
+      let r = rowAt rows (frameRow e) in
+      cond (eqb (r .kind) consKind) (cond (ltb e rowBound) (textOn (termAt message rows (r .first)) (code "&" ∷ more)) (code "&" ∷ more))
+      (cond (eqb (r .kind) fieldKind) (fieldsOn (fieldsOf (termAt message rows (r .second))) (code "}" ∷ more))
+      (between (code "`") (spanOf message (r .first) (r .second)) more))
 
--- `&`, `}`, the tag
-abbrev pub ampersand : ℕ
-ampersand = 5
+  -- what is still to come of the frames, the top first; `$` comes after the whole
+  unfoldable pub pending : List ℕ → List ℕ
+  pending [] = code "$" ∷ []
+  pending (e ∷ frames) = frameOn e (pending frames)
 
-abbrev pub brace : ℕ
-brace = 6
+  -- what is still to come where row i comes first
+  abbrev pub coming : ℕ → List ℕ → List ℕ
+  coming i frames = textOn (termAt message rows i) (pending frames)
 
-abbrev pub tagged : ℕ
-tagged = 7
+  -- where a tuple's fields come first, those from row i on
+  abbrev pub comingFields : ℕ → List ℕ → List ℕ
+  comingFields i frames = fieldsOn (fieldsOf (termAt message rows i)) (code "}" ∷ pending frames)
 
--- an entry of the stack: what is still to come, and of which row; rows used are below the bound, so that nothing is lost
-unfoldable pub entry : ℕ → ℕ → ℕ
-entry phase i = phase * rowBound + i % rowBound
+  -- the row of a frame names others
+  pub data Frame (e : ℕ) : Type 0 where
+    of-cell : rowAt rows (frameRow e) .kind ≡ consKind → Frame e
+    of-field : rowAt rows (frameRow e) .kind ≡ fieldKind → Frame e
+    of-tag : rowAt rows (frameRow e) .kind ≡ tagKind → Frame e
 
-unfoldable pub phaseOf : ℕ → ℕ
-phaseOf e = e / rowBound
+  -- row i lies above these frames, whose rows fall towards it
+  abbrev pub Above : ℕ → List ℕ → Type 0
+  Above i [] = i < used
+  Above i (e ∷ frames) = (i < frameRow e) × (Frame e × Above (frameRow e) frames)
 
-unfoldable pub rowOf : ℕ → ℕ
-rowOf e = e % rowBound
+  abbrev pub Falling : List ℕ → Type 0
+  Falling [] = Unit {0}
+  Falling (e ∷ frames) = Frame e × Above (frameRow e) frames
 
--- a turn of the walk: a piece of text, and the stack after it, its top first
-pub record Next : Type 0 where
-  pub piece : Piece
-  pub stack : List ℕ
+  -- a sound table, and room for a text from `at` on
+  pub record Room (text output : List ℕ) (at : ℕ) : Type 0 where
+    pub fits : used ≤ rowRoom words
+    pub sound : T (soundRows message rows)
+    pub room : at + length text ≤ length output
 
-abbrev pub gives : Piece → List ℕ → Next
-gives p stack = record { piece = p; stack = stack }
+  -- after a turn of the frame at `top` of the stack: a row that comes next, above the frame; or the frame is done
+  unfoldable pub placeAfter : After → ℕ
+  placeAfter (Into row at) = at
+  placeAfter (Done at) = at
 
--- an integer by its sign and its magnitude
-unfoldable pub integerPiece : ℤ → Piece
-integerPiece (pos n) = Integer false n
-integerPiece (negsuc n) = Integer true (suc n)
+  unfoldable pub comingAfter : After → List ℕ → ℕ → List ℕ
+  comingAfter (Into row at) stack top = coming (row .0) (getD stack top 0 ∷ lastFirst stack top)
+  comingAfter (Done at) stack top = pending (lastFirst stack top)
 
--- row i as a value; `below` is the stack under it
-unfoldable pub valueTurn : ℕ → Row → List ℕ → Next
-valueTurn i r below =
-    let start : Offset = record { 0 = r .first } in
-    cond (eqb (r .kind) integerKind) (gives (integerPiece (integerOfRow r)) below)
-    (cond (eqb (r .kind) atomKind) (gives (Quoted (code "'") start (r .second)) below)
-    (cond (eqb (r .kind) stringKind) (gives (Quoted (code "\"") start (r .second)) below)
-    (cond (eqb (r .kind) binaryKind) (gives (Binary start (r .second)) below)
-    (cond (eqb (r .kind) nilKind) (gives (Byte (code "#")) below)
-    (cond (eqb (r .kind) consKind) (gives (Byte (code "#")) (entry rest (r .second) ∷ entry item i ∷ below))
-    (cond (eqb (r .kind) endKind) (gives (Byte (code "{")) (entry brace i ∷ below))
-    (cond (eqb (r .kind) fieldKind) (gives (Byte (code "{")) (entry value (r .first) ∷ entry fields i ∷ below))
-    (gives Nothing (entry value (r .third) ∷ entry tagged i ∷ below)))))))))
+  unfoldable pub ReadyAfter : After → List ℕ → ℕ → Type 0
+  ReadyAfter (Into row at) stack top = Above (row .0) (getD stack top 0 ∷ lastFirst stack top)
+  ReadyAfter (Done at) stack top = Falling (lastFirst stack top)
 
--- row i as a rest; `rows` gives the row of a number. A field comes at once
-unfoldable pub restTurn : (ℕ → Row) → ℕ → Row → List ℕ → Next
-restTurn rows i r below =
-    cond (eqb (r .kind) consKind) (gives Nothing (entry rest (r .second) ∷ entry item i ∷ below))
-    (cond (eqb (r .kind) fieldKind) (valueTurn (r .first) (rows (r .first)) (entry tail i ∷ below))
-    (gives Nothing below))
+  -- after turns of the frames: a row that comes next, above so many frames; or only `$`
+  unfoldable pub placeRest : Rest → ℕ
+  placeRest (R.Into row depth at) = at
+  placeRest (R.Whole at) = at
 
--- row i with something still to come. What it names comes at once
-unfoldable pub turnOf : (ℕ → Row) → ℕ → ℕ → Row → List ℕ → Next
-turnOf rows phase i r below =
-    cond (eqb phase value) (valueTurn i r below)
-    (cond (eqb phase rest) (restTurn rows i r below)
-    (cond (eqb phase item) (valueTurn (r .first) (rows (r .first)) (entry ampersand i ∷ below))
-    (cond (eqb phase fields) (restTurn rows (r .second) (rows (r .second)) (entry brace i ∷ below))
-    (cond (eqb phase tail) (restTurn rows (r .second) (rows (r .second)) below)
-    (cond (eqb phase ampersand) (gives (Byte (code "&")) below)
-    (cond (eqb phase brace) (gives (Byte (code "}")) below)
-    (gives (Quoted (code "`") (record { 0 = r .first }) (r .second)) below)))))))
+  unfoldable pub comingRest : Rest → List ℕ → List ℕ
+  comingRest (R.Into row depth at) stack = coming (row .0) (lastFirst stack depth)
+  comingRest (R.Whole at) stack = pending []
 
--- the turn of the entry at `top` of a stack of words
-unfoldable pub turnAt : List ℕ → List ℕ → ℕ → Next
-turnAt words stack top =
-    let e = getD stack top 0 in
-    turnOf (rowIn words) (phaseOf e) (rowOf e) (rowIn words (rowOf e)) (lastFirst stack top)
+  unfoldable pub ReadyRest : Rest → List ℕ → Type 0
+  ReadyRest (R.Into row depth at) stack = Above (row .0) (lastFirst stack depth)
+  ReadyRest (R.Whole at) stack = Unit {0}
 
--- what the code answers: a piece, and how many entries then lie on the stack
-unfoldable pub turned : Turn → List ℕ → Next
-turned t stack = gives (t .piece) (lastFirst stack (t .depth))
+-- part of a text was stored from `at` on: what is left of it, stored where that part ends, makes the same bytes
+pub record Partly (output : List ℕ) (at : ℕ) (text : List ℕ) (output′ : List ℕ) (at′ : ℕ) (text′ : List ℕ) : Type 0 where
+  pub onward : at ≤ at′
+  pub count : at′ + length text′ ≡ at + length text
+  pub bytes : sets output′ at′ text′ ≡ sets output at text

@@ -1,12 +1,13 @@
 //! The length of a row's text, from the lengths of the texts of earlier rows.
 ghost use mathlib.Core.Path.{_≡_};
 ghost use Prim.Native.Nat.{_+_, _*_, _^_, _<_};
+ghost use lib.ListN.{length};
 ghost use Rattle.format.specs.Bits.{fromBits};
 ghost use Rattle.format.specs.Term as T;
 ghost use Rattle.table.specs.Words.{rowOf};
-ghost use Rattle.text.specs.Lengths.{textLength, ownLength, rowLength, capped, lengthIn};
+ghost use Rattle.text.specs.Lengths.{textLength, named, below, ownLength, rowLength, capped, lengthIn};
 use crate::decimal;
-use crate::piece;
+use crate::leaf;
 use format::kind;
 use table::RowWords;
 
@@ -27,7 +28,7 @@ pub(crate) fn cap(n: u64) -> u32
 fn integer_length(high: u32, low: u32) -> u64
     ensures { λ r. ⌜ r ≡ textLength (T.int (fromBits 64 (high * 2 ^ 32 + low))) ⌝ }
 {
-    let z = piece::from_halves(high, low);
+    let z = leaf::from_halves(high, low);
     let digits = decimal::digit_count(z.magnitude) as u64;
     if z.negative {
         return digits + 2;
@@ -55,20 +56,18 @@ pub(crate) fn own_length(words: RowWords) -> u64
     }
 }
 
-// The length that a row's word holds; 0 past them all.
+// The length that a row's word holds.
 fn length_at(lengths: &[u32], row: u32) -> u64
+    requires { ⌜ row < length (now lengths) ⌝ }
     ensures { λ r. ⌜ r ≡ lengthIn (now (lengths .entry)) row ⌝ }
     ensures { λ r. ⌜ r < 2 ^ 32 ⌝ }
 {
-    let i = row as usize;
-    if i < lengths.len() {
-        return lengths[i] as u64;
-    }
-    0
+    lengths[row as usize] as u64
 }
 
 // The length of a row's text. No sum wraps, since each part is a word's.
 pub(crate) fn row_length(lengths: &[u32], words: RowWords) -> u64
+    requires { ⌜ below (length (now lengths)) (named (rowOf words)) ⌝ }
     ensures { λ r. ⌜ r ≡ rowLength (lengthIn (now (lengths .entry))) (rowOf words) ⌝ }
 {
     let k = words.kind;

@@ -17,9 +17,9 @@ use table::sound;
 
 mod count;
 mod decimal;
+mod leaf;
 mod length;
 mod measure;
-mod piece;
 mod span;
 mod store;
 mod walk;

@@ -7,8 +7,8 @@ ghost use lib.ListN.{length, drop};
 ghost use Rattle.format.specs.Rows.{rowsOf, termAt};
 ghost use Rattle.format.specs.Sound.{soundTable};
 ghost use Rattle.format.specs.Text.{plain};
-use crate::piece;
 use crate::walk;
+use crate::walk::Rest;
 use format::Row;
 use format::byte;
 
@@ -25,14 +25,24 @@ pub(crate) fn store_text(
     ensures { λ r. ⌜ now (output .exit) ≡ plain (termAt (now (message .entry)) (rowsOf (length (now (stack .entry))) (now (rows .entry))) (root .0)) ++ drop r (now (output .entry)) ⌝ }
     ensures { λ r. ⌜ r ≡ length (plain (termAt (now (message .entry)) (rowsOf (length (now (stack .entry))) (now (rows .entry))) (root .0))) ⌝ }
 {
-    walk::begin(stack, root);
-    let mut depth = 1;
+    let mut more = true;
+    let mut row = root;
+    let mut depth = 0;
     let mut at = 0;
-    while 0 < depth {
-        let t = walk::step(rows, stack, depth - 1);
-        let p = t.piece;
-        at = piece::put(message, output, at, p);
-        depth = t.depth;
+    while more {
+        let first = walk::put_first(message, rows, stack, depth, row, output, at);
+        let rest = walk::put_rest(message, rows, stack, first.depth, output, first.at);
+        match rest {
+            Rest::Into(next, frames, end) => {
+                row = next;
+                depth = frames;
+                at = end;
+            }
+            Rest::Whole(end) => {
+                more = false;
+                at = end;
+            }
+        }
     }
     output[at] = byte::DOLLAR;
     at + 1

@@ -1,15 +1,14 @@
-//! The walk over the rows: a turn gives a piece of text, and leaves on the stack what is still to come.
+//! The walk over the rows: the text of a leaf is stored where the leaf is met, and what is still to come of the rows around it lies on the stack, in frames.
 ghost use mathlib.Core.Path.{_≡_};
-ghost use mathlib.Core.List.{List, _∷_};
-ghost use Prim.Native.Nat.{ℕ, _+_, _*_, _^_, _≤_, _<_};
-ghost use lib.ListN.{length, set};
-ghost use Rattle.format.specs.Bits.{fromBits};
-ghost use Rattle.table.specs.Words.{lastFirst, rowIn};
-ghost use Rattle.table.specs.Words as W;
-ghost use Rattle.text.specs.Walk as S;
-ghost use Rattle.text.specs.Walk.{entry, gives, integerPiece, valueTurn, restTurn, turnOf, turnAt, turned};
-use crate::piece;
-use crate::piece::Piece;
+ghost use mathlib.Core.List.{_∷_};
+ghost use Prim.Native.Nat.{_+_, _≤_, _<_};
+ghost use lib.Dec.{T};
+ghost use lib.ListN.{length, getD};
+ghost use lib.Seq.{sets};
+ghost use Rattle.format.specs.Rows.{isTupleKind, consKind};
+ghost use Rattle.table.specs.Words.{rowOf, lastFirst, rowIn};
+ghost use Rattle.text.specs.Walk.{openBytes, firstNamed, frameRow, pending, coming, comingFields, Above, Falling, Room, placeAfter, comingAfter, ReadyAfter, placeRest, comingRest, ReadyRest, Partly};
+use crate::leaf;
 use format::Offset;
 use format::Row;
 use format::bound;
@@ -17,218 +16,213 @@ use format::byte;
 use format::kind;
 use table::RowWords;
 
-// What is still to come of a row: all of it, as a value or as a rest; of a list cell its item; of a tuple, or of a tuple's rest, the
-// other fields; then what closes a list item, a tuple, a tag.
-const VALUE: u32 = 0;
+// Added to the number of a list cell, in its frame, once its item is begun. Rows used are below the bound.
+const ITEM_BEGUN: u32 = bound::ROWS as u32;
 
-const REST: u32 = 1;
-
-const ITEM: u32 = 2;
-
-const FIELDS: u32 = 3;
-
-const TAIL: u32 = 4;
-
-const AMPERSAND: u32 = 5;
-
-const BRACE: u32 = 6;
-
-const TAGGED: u32 = 7;
-
-// How many row numbers an entry tells apart: as many as a table has rows.
-const ENTRY_ROWS: u32 = bound::ROWS as u32;
-
-// A piece of text, and how many entries then lie on the stack.
-pub(crate) struct Turn {
-    pub piece: Piece,
+// How many frames lie on the stack, and where the text goes on.
+pub(crate) struct Place {
     pub depth: usize,
+    pub at: usize,
 }
 
-// An entry of the stack. Rows used are below the bound, so nothing of their numbers is lost.
-fn entry_of(phase: u32, row: Row) -> u32
-    requires { ⌜ phase < 8 ⌝ }
-    ensures { λ r. ⌜ r ≡ entry phase (row .0) ⌝ }
-{
-    phase * ENTRY_ROWS + row.0 % ENTRY_ROWS
+// After a frame's turn: a row that comes next, above the frame; or the frame is done. And where the text goes on.
+pub(crate) enum After {
+    Into(Row, usize),
+    Done(usize),
 }
 
-// Nothing is still to come of the top.
-fn done(piece: Piece, top: usize) -> Turn
-    ensures { λ r. ⌜ ((stack : List ℕ) → turned r stack ≡ gives piece (lastFirst stack top)) ⌝ }
-{
-    Turn { piece, depth: top }
+// After turns of the frames: a row that comes next, above so many frames; or only `$`. And where the text goes on.
+pub(crate) enum Rest {
+    Into(Row, usize, usize),
+    Whole(usize),
 }
 
-// Puts one entry in place of the top.
-fn put_one(stack: &mut [u32], top: usize, piece: Piece, phase: u32, row: Row) -> Turn
-    requires { ⌜ (top < length (now stack)) × (phase < 8) ⌝ }
-    ensures { λ r. ⌜ turned r (now (stack .exit)) ≡ gives piece (entry phase (row .0) ∷ lastFirst (now (stack .entry)) top) ⌝ }
-{
-    stack[top] = entry_of(phase, row);
-    Turn {
-        piece,
-        depth: top + 1,
-    }
-}
-
-// Puts two entries in place of the top: one for the row itself, and above it one for a row that it names, which comes first.
-fn put_two(
-    stack: &mut [u32],
-    top: usize,
-    piece: Piece,
-    above: u32,
-    named: Row,
-    phase: u32,
+// The row whose text comes first in a row's own, and where the text goes on.
+struct Begun {
     row: Row,
-) -> Turn
-    requires { ⌜ (top + 1 < length (now stack)) × (above < 8) × (phase < 8) ⌝ }
-    ensures { λ r. ⌜ turned r (now (stack .exit)) ≡ gives piece (entry above (named .0) ∷ entry phase (row .0) ∷ lastFirst (now (stack .entry)) top) ⌝ }
-{
-    stack[top] = entry_of(phase, row);
-    stack[top + 1] = entry_of(above, named);
-    Turn {
-        piece,
-        depth: top + 2,
-    }
+    at: usize,
 }
 
-// The integer of a row, by the halves of its two's complement.
-fn integer(high: u32, low: u32) -> Piece
-    ensures { λ r. ⌜ r ≡ integerPiece (fromBits 64 (high * 2 ^ 32 + low)) ⌝ }
-{
-    let z = piece::from_halves(high, low);
-    Piece::Integer(z.negative, z.magnitude)
-}
-
-// Row `row` as a value.
-fn value(stack: &mut [u32], top: usize, row: Row, words: RowWords) -> Turn
-    requires { ⌜ length (valueTurn (row .0) (W.rowOf words) (lastFirst (now stack) top) .stack) ≤ length (now stack) ⌝ }
-    ensures { λ r. ⌜ turned r (now (stack .exit)) ≡ valueTurn (row .0) (W.rowOf words) (lastFirst (now (stack .entry)) top) ⌝ }
+// Stores what stands before the first of the rows that a row names: `{` where that is a tuple's field.
+fn begin(output: &mut [u8], at: usize, words: RowWords) -> Begun
+    requires { ⌜ at + length (openBytes (rowOf words)) ≤ length (now output) ⌝ }
+    ensures { λ r. ⌜ now (output .exit) ≡ sets (now (output .entry)) at (openBytes (rowOf words)) ⌝ }
+    ensures { λ r. ⌜ (r .at ≡ at + length (openBytes (rowOf words))) × (r .row .0 ≡ firstNamed (rowOf words)) ⌝ }
 {
     let k = words.kind;
-    let start = Offset(words.first as usize);
-    let n = words.second as usize;
-    let first = Row(words.first);
-    let second = Row(words.second);
-    let hash = Piece::Byte(byte::HASH);
-    let brace = Piece::Byte(byte::LEFT_BRACE);
-    match k {
-        kind::INTEGER => done(integer(words.first, words.second), top),
-        kind::ATOM => done(Piece::Quoted(byte::ATOM_QUOTE, start, n), top),
-        kind::STRING => done(Piece::Quoted(byte::STRING_QUOTE, start, n), top),
-        kind::BINARY => done(Piece::Binary(start, n), top),
-        kind::NIL => done(hash, top),
-        kind::CONS => put_two(stack, top, hash, REST, second, ITEM, row),
-        kind::END => put_one(stack, top, brace, BRACE, row),
-        kind::FIELD => put_two(stack, top, brace, VALUE, first, FIELDS, row),
-        // a tag, the only kind left in a sound table
-        _ => put_two(
-            stack,
-            top,
-            Piece::Nothing,
-            VALUE,
-            Row(words.third),
-            TAGGED,
-            row,
-        ),
+    if k == kind::FIELD {
+        let end = leaf::put_byte(output, at, byte::LEFT_BRACE);
+        return Begun {
+            row: Row(words.first),
+            at: end,
+        };
+    }
+    if k == kind::CONS {
+        return Begun {
+            row: Row(words.second),
+            at,
+        };
+    }
+    Begun {
+        row: Row(words.third),
+        at,
     }
 }
 
-// Row `named` as a value, over what is still to come of row `row`, which names it.
-fn named_value(
+// Stores the first leaf in row `row`, and what stands before it. The rows around the leaf become frames.
+pub(crate) fn put_first(
+    message: &[u8],
+    rows: &[u32],
+    stack: &mut [u32],
+    depth: usize,
+    row: Row,
+    output: &mut [u8],
+    at: usize,
+) -> Place
+    requires { ⌜ Above (now message) (now rows) (length (now stack)) (row .0) (lastFirst (now stack) depth) ⌝ }
+    requires { ⌜ Room (now message) (now rows) (length (now stack)) (coming (now message) (now rows) (length (now stack)) (row .0) (lastFirst (now stack) depth)) (now output) at ⌝ }
+    ensures { λ r. ⌜ Falling (now (message .entry)) (now (rows .entry)) (length (now (stack .entry))) (lastFirst (now (stack .exit)) (r .depth)) ⌝ }
+    ensures { λ r. ⌜ Partly (now (output .entry)) at (coming (now (message .entry)) (now (rows .entry)) (length (now (stack .entry))) (row .0) (lastFirst (now (stack .entry)) depth)) (now (output .exit)) (r .at) (pending (now (message .entry)) (now (rows .entry)) (length (now (stack .entry))) (lastFirst (now (stack .exit)) (r .depth))) ⌝ }
+    ensures { λ r. ⌜ at < r .at ⌝ }
+{
+    let mut n = row;
+    let mut words = table::load_row(rows, n);
+    let mut frames = depth;
+    let mut end = at;
+    while !leaf::is_leaf(words.kind) {
+        let above = frames + 1;
+        stack[frames] = n.0;
+        let begun = begin(output, end, words);
+        n = begun.row;
+        end = begun.at;
+        words = table::load_row(rows, n);
+        frames = above;
+    }
+    Place {
+        depth: frames,
+        at: leaf::put(message, output, end, words),
+    }
+}
+
+// Stores the fields of a tuple from row `rest` on, and `}`; or those before one that is no leaf, which comes next. The frame at `top` is the tuple's.
+fn put_fields(
+    message: &[u8],
     rows: &[u32],
     stack: &mut [u32],
     top: usize,
-    named: Row,
-    phase: u32,
-    row: Row,
-) -> Turn
-    requires { ⌜ phase < 8 ⌝ }
-    requires { ⌜ length (valueTurn (named .0) (rowIn (now rows) (named .0)) (entry phase (row .0) ∷ lastFirst (now stack) top) .stack) ≤ length (now stack) ⌝ }
-    ensures { λ r. ⌜ turned r (now (stack .exit)) ≡ valueTurn (named .0) (rowIn (now (rows .entry)) (named .0)) (entry phase (row .0) ∷ lastFirst (now (stack .entry)) top) ⌝ }
+    rest: Row,
+    output: &mut [u8],
+    at: usize,
+) -> After
+    requires { ⌜ (top < length (now stack)) × T (isTupleKind (rowIn (now rows) (rest .0) .kind)) ⌝ }
+    requires { ⌜ Above (now message) (now rows) (length (now stack)) (rest .0) (lastFirst (now stack) top) ⌝ }
+    requires { ⌜ Room (now message) (now rows) (length (now stack)) (comingFields (now message) (now rows) (length (now stack)) (rest .0) (lastFirst (now stack) top)) (now output) at ⌝ }
+    ensures { λ r. ⌜ ReadyAfter (now (message .entry)) (now (rows .entry)) (length (now (stack .entry))) r (now (stack .exit)) top ⌝ }
+    ensures { λ r. ⌜ Partly (now (output .entry)) at (comingFields (now (message .entry)) (now (rows .entry)) (length (now (stack .entry))) (rest .0) (lastFirst (now (stack .entry)) top)) (now (output .exit)) (placeAfter (now (message .entry)) (now (rows .entry)) (length (now (stack .entry))) r) (comingAfter (now (message .entry)) (now (rows .entry)) (length (now (stack .entry))) r (now (stack .exit)) top) ⌝ }
 {
-    let words = table::load_row(rows, named);
-    stack[top] = entry_of(phase, row);
-    value(stack, top + 1, named, words)
-}
-
-// Row `row` as the rest of a list or tuple.
-fn rest(rows: &[u32], stack: &mut [u32], top: usize, row: Row, words: RowWords) -> Turn
-    requires { ⌜ length (restTurn (rowIn (now rows)) (row .0) (W.rowOf words) (lastFirst (now stack) top) .stack) ≤ length (now stack) ⌝ }
-    ensures { λ r. ⌜ turned r (now (stack .exit)) ≡ restTurn (rowIn (now (rows .entry))) (row .0) (W.rowOf words) (lastFirst (now (stack .entry)) top) ⌝ }
-{
-    let k = words.kind;
-    let none = Piece::Nothing;
-    match k {
-        kind::CONS => put_two(stack, top, none, REST, Row(words.second), ITEM, row),
-        kind::FIELD => named_value(rows, stack, top, Row(words.first), TAIL, row),
-        _ => done(none, top),
+    let mut n = rest;
+    let mut words = table::load_row(rows, n);
+    let mut end = at;
+    while words.kind == kind::FIELD {
+        let first = Row(words.first);
+        let field = table::load_row(rows, first);
+        if !leaf::is_leaf(field.kind) {
+            stack[top] = n.0;
+            return After::Into(first, end);
+        }
+        end = leaf::put(message, output, end, field);
+        n = Row(words.second);
+        words = table::load_row(rows, n);
     }
+    After::Done(leaf::put_byte(output, end, byte::RIGHT_BRACE))
 }
 
-// Row `named` as a rest, in place of the top.
-fn named_rest(rows: &[u32], stack: &mut [u32], top: usize, named: Row) -> Turn
-    requires { ⌜ length (restTurn (rowIn (now rows)) (named .0) (rowIn (now rows) (named .0)) (lastFirst (now stack) top) .stack) ≤ length (now stack) ⌝ }
-    ensures { λ r. ⌜ turned r (now (stack .exit)) ≡ restTurn (rowIn (now (rows .entry))) (named .0) (rowIn (now (rows .entry)) (named .0)) (lastFirst (now (stack .entry)) top) ⌝ }
-{
-    let words = table::load_row(rows, named);
-    rest(rows, stack, top, named, words)
-}
-
-// Row `named` as a rest, and `}` over it.
-fn named_fields(rows: &[u32], stack: &mut [u32], top: usize, named: Row, row: Row) -> Turn
-    requires { ⌜ length (restTurn (rowIn (now rows)) (named .0) (rowIn (now rows) (named .0)) (entry S.brace (row .0) ∷ lastFirst (now stack) top) .stack) ≤ length (now stack) ⌝ }
-    ensures { λ r. ⌜ turned r (now (stack .exit)) ≡ restTurn (rowIn (now (rows .entry))) (named .0) (rowIn (now (rows .entry)) (named .0)) (entry S.brace (row .0) ∷ lastFirst (now (stack .entry)) top) ⌝ }
-{
-    stack[top] = entry_of(BRACE, row);
-    named_rest(rows, stack, top + 1, named)
-}
-
-// What is still to come of row `row`.
-fn turn_of(
+// Stores the item of a list cell and `&`; or nothing yet where the item is no leaf, and comes next. The frame at `top` is the cell's.
+fn put_item(
+    message: &[u8],
     rows: &[u32],
     stack: &mut [u32],
     top: usize,
-    phase: u32,
-    row: Row,
-    words: RowWords,
-) -> Turn
-    requires { ⌜ length (turnOf (rowIn (now rows)) phase (row .0) (W.rowOf words) (lastFirst (now stack) top) .stack) ≤ length (now stack) ⌝ }
-    ensures { λ r. ⌜ turned r (now (stack .exit)) ≡ turnOf (rowIn (now (rows .entry))) phase (row .0) (W.rowOf words) (lastFirst (now (stack .entry)) top) ⌝ }
-{
-    let start = Offset(words.first as usize);
-    let n = words.second as usize;
-    let first = Row(words.first);
-    let second = Row(words.second);
-    match phase {
-        VALUE => value(stack, top, row, words),
-        REST => rest(rows, stack, top, row, words),
-        ITEM => named_value(rows, stack, top, first, AMPERSAND, row),
-        FIELDS => named_fields(rows, stack, top, second, row),
-        TAIL => named_rest(rows, stack, top, second),
-        AMPERSAND => done(Piece::Byte(byte::AMPERSAND), top),
-        BRACE => done(Piece::Byte(byte::RIGHT_BRACE), top),
-        // the tag, the only phase left
-        _ => done(Piece::Quoted(byte::TAG_QUOTE, start, n), top),
-    }
-}
-
-// The walk begins: the root is still to come, as a value.
-pub(crate) fn begin(stack: &mut [u32], root: Row)
-    requires { ⌜ 0 < length (now stack) ⌝ }
-    ensures { λ r. ⌜ now (stack .exit) ≡ set (now (stack .entry)) 0 (entry S.value (root .0)) ⌝ }
-{
-    stack[0] = entry_of(VALUE, root);
-}
-
-// The turn of the entry at `top`.
-pub(crate) fn step(rows: &[u32], stack: &mut [u32], top: usize) -> Turn
+    item: Row,
+    output: &mut [u8],
+    at: usize,
+) -> After
     requires { ⌜ top < length (now stack) ⌝ }
-    requires { ⌜ length (turnAt (now rows) (now stack) top .stack) ≤ length (now stack) ⌝ }
-    ensures { λ r. ⌜ turned r (now (stack .exit)) ≡ turnAt (now (rows .entry)) (now (stack .entry)) top ⌝ }
+    requires { ⌜ Falling (now message) (now rows) (length (now stack)) (getD (now stack) top 0 ∷ lastFirst (now stack) top) ⌝ }
+    requires { ⌜ Room (now message) (now rows) (length (now stack)) (pending (now message) (now rows) (length (now stack)) (getD (now stack) top 0 ∷ lastFirst (now stack) top)) (now output) at ⌝ }
+    requires { ⌜ (rowIn (now rows) (frameRow (getD (now stack) top 0)) .kind ≡ consKind) × (rowIn (now rows) (frameRow (getD (now stack) top 0)) .first ≡ item .0) ⌝ }
+    ensures { λ r. ⌜ ReadyAfter (now (message .entry)) (now (rows .entry)) (length (now (stack .entry))) r (now (stack .exit)) top ⌝ }
+    ensures { λ r. ⌜ Partly (now (output .entry)) at (pending (now (message .entry)) (now (rows .entry)) (length (now (stack .entry))) (getD (now (stack .entry)) top 0 ∷ lastFirst (now (stack .entry)) top)) (now (output .exit)) (placeAfter (now (message .entry)) (now (rows .entry)) (length (now (stack .entry))) r) (comingAfter (now (message .entry)) (now (rows .entry)) (length (now (stack .entry))) r (now (stack .exit)) top) ⌝ }
 {
-    let e = stack[top];
-    let row = Row(e % ENTRY_ROWS);
-    let words = table::load_row(rows, row);
-    turn_of(rows, stack, top, e / ENTRY_ROWS, row, words)
+    let frame = stack[top];
+    if ITEM_BEGUN <= frame {
+        return After::Done(leaf::put_byte(output, at, byte::AMPERSAND));
+    }
+    let words = table::load_row(rows, item);
+    if leaf::is_leaf(words.kind) {
+        let end = leaf::put(message, output, at, words);
+        return After::Done(leaf::put_byte(output, end, byte::AMPERSAND));
+    }
+    stack[top] = frame + ITEM_BEGUN;
+    After::Into(item, at)
+}
+
+// Stores what is still to come of the frame at `top`, up to a row that is no leaf.
+fn put_frame(
+    message: &[u8],
+    rows: &[u32],
+    stack: &mut [u32],
+    top: usize,
+    output: &mut [u8],
+    at: usize,
+) -> After
+    requires { ⌜ top < length (now stack) ⌝ }
+    requires { ⌜ Falling (now message) (now rows) (length (now stack)) (getD (now stack) top 0 ∷ lastFirst (now stack) top) ⌝ }
+    requires { ⌜ Room (now message) (now rows) (length (now stack)) (pending (now message) (now rows) (length (now stack)) (getD (now stack) top 0 ∷ lastFirst (now stack) top)) (now output) at ⌝ }
+    ensures { λ r. ⌜ ReadyAfter (now (message .entry)) (now (rows .entry)) (length (now (stack .entry))) r (now (stack .exit)) top ⌝ }
+    ensures { λ r. ⌜ Partly (now (output .entry)) at (pending (now (message .entry)) (now (rows .entry)) (length (now (stack .entry))) (getD (now (stack .entry)) top 0 ∷ lastFirst (now (stack .entry)) top)) (now (output .exit)) (placeAfter (now (message .entry)) (now (rows .entry)) (length (now (stack .entry))) r) (comingAfter (now (message .entry)) (now (rows .entry)) (length (now (stack .entry))) r (now (stack .exit)) top) ⌝ }
+{
+    let frame = stack[top];
+    let words = table::load_row(rows, Row(frame % ITEM_BEGUN));
+    let k = words.kind;
+    let start = Offset(words.first as usize);
+    let n = words.second as usize;
+    match k {
+        kind::FIELD => put_fields(message, rows, stack, top, Row(words.second), output, at),
+        kind::TAG => After::Done(leaf::put_quoted(message, output, at, byte::TAG_QUOTE, start, n)),
+        // a list cell, the only kind left in a frame
+        _ => put_item(message, rows, stack, top, Row(words.first), output, at),
+    }
+}
+
+// Stores what is still to come of the frames, up to a row that is no leaf.
+pub(crate) fn put_rest(
+    message: &[u8],
+    rows: &[u32],
+    stack: &mut [u32],
+    depth: usize,
+    output: &mut [u8],
+    at: usize,
+) -> Rest
+    requires { ⌜ Falling (now message) (now rows) (length (now stack)) (lastFirst (now stack) depth) ⌝ }
+    requires { ⌜ Room (now message) (now rows) (length (now stack)) (pending (now message) (now rows) (length (now stack)) (lastFirst (now stack) depth)) (now output) at ⌝ }
+    ensures { λ r. ⌜ ReadyRest (now (message .entry)) (now (rows .entry)) (length (now (stack .entry))) r (now (stack .exit)) ⌝ }
+    ensures { λ r. ⌜ Partly (now (output .entry)) at (pending (now (message .entry)) (now (rows .entry)) (length (now (stack .entry))) (lastFirst (now (stack .entry)) depth)) (now (output .exit)) (placeRest (now (message .entry)) (now (rows .entry)) (length (now (stack .entry))) r) (comingRest (now (message .entry)) (now (rows .entry)) (length (now (stack .entry))) r (now (stack .exit))) ⌝ }
+{
+    let mut frames = depth;
+    let mut end = at;
+    while 0 < frames {
+        let top = frames - 1;
+        let after = put_frame(message, rows, stack, top, output, end);
+        match after {
+            After::Done(next) => {
+                frames = top;
+                end = next;
+            }
+            After::Into(row, next) => {
+                return Rest::Into(row, frames, next);
+            }
+        }
+    }
+    Rest::Whole(end)
 }

@@ -1,5 +1,5 @@
 -- `text::count::put_both` meets its contract.
-use Rattle.text.proofs.Turns.{two-put}
+use Rattle.text.proofs.Counts.{two-put}
 use borrow.Author.Needs.{needs}
 use Rattle.text.proofs.count.put_both.Statement.{statement}
 use Rattle.text.proofs.count.put_both.Tie as tie

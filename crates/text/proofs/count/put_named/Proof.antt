@@ -2,7 +2,7 @@
 use mathlib.Core.Path.{_∙_}
 use native.Mathlib.Omega.{arith}
 use Rattle.text.proofs.Lengths.{names-cell, names-field, names-inner, names-none, names-room, names-onto}
-use Rattle.text.proofs.Turns.{one-put}
+use Rattle.text.proofs.Counts.{one-put}
 use borrow.Author.Needs.{needs}
 use Rattle.text.proofs.count.put_named.Statement.{statement}
 use Rattle.text.proofs.count.put_named.Tie as tie

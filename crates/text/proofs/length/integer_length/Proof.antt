@@ -1,7 +1,7 @@
 -- `text::length::integer_length` meets its contract.
-use mathlib.Core.Path.{_∙_}
-use Rattle.text.proofs.Pieces.{size-negative, size-positive}
-use Rattle.text.proofs.Walks.{integer-length}
+use mathlib.Core.Path.{ap, _∙_}
+use lib.ListN.{length}
+use Rattle.text.proofs.Leaves.{size-negative, size-positive}
 use borrow.Author.Needs.{needs}
 use Rattle.text.proofs.length.integer_length.Statement.{statement}
 use Rattle.text.proofs.length.integer_length.Tie as tie
@@ -18,7 +18,7 @@ add-result c = search needs
 returns : tie.Need-returns
 returns c =
     let digits = c .before in
-    size-negative _ (digits .digit-count .ensures .0) (c .if1 .taken) ∙ integer-length _ (digits .before .from-halves .ensures)
+    size-negative _ (digits .digit-count .ensures .0) (c .if1 .taken) ∙ ap length (digits .before .from-halves .ensures)
 
 add-result-2 : tie.Need-add-result-2
 add-result-2 c = search needs
@@ -26,7 +26,7 @@ add-result-2 c = search needs
 returns-2 : tie.Need-returns-2
 returns-2 c =
     let digits = c .before in
-    size-positive _ (digits .digit-count .ensures .0) (c .if1 .left) ∙ integer-length _ (digits .before .from-halves .ensures)
+    size-positive _ (digits .digit-count .ensures .0) (c .if1 .left) ∙ ap length (digits .before .from-halves .ensures)
 
 pub integer-length-spec : {M : Type 1} → statement M
 integer-length-spec =

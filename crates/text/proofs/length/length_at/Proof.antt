@@ -1,8 +1,6 @@
--- `text::length::length_at` meets its contract: a word read, or past them all.
-use mathlib.Core.Path.{refl, sym}
+-- `text::length::length_at` meets its contract.
+use mathlib.Core.Path.{refl}
 use native.Mathlib.Omega.{arith}
-use denote.Ref.{now}
-use lib.ListN.{List·getD-eq-default}
 use borrow.Author.Needs.{needs}
 use Rattle.text.proofs.length.length_at.Statement.{statement}
 use Rattle.text.proofs.length.length_at.Tie as tie
@@ -14,14 +12,10 @@ shared-slice-read-result : tie.Need-shared-slice-read-result
 shared-slice-read-result c = search needs
 
 cast-result : tie.Need-cast-result
-cast-result c = omega (arith, c .shared-slice-known .given (c .before .before .args .row))
+cast-result c = omega (arith, c .shared-slice-known .given (c .before .args .row))
 
 returns : tie.Need-returns
-returns c = (refl, omega (arith, c .shared-slice-known .given (c .before .before .args .row)))
-
-returns-2 : tie.Need-returns-2
-returns-2 c = (sym (List·getD-eq-default (now (c .before .args .lengths)) 0 (c .if1 .left)), omega arith)
+returns c = (refl, omega (arith, c .shared-slice-known .given (c .before .args .row)))
 
 pub length-at-spec : {M : Type 1} → statement M
-length-at-spec =
-    tie.close (tie.spec mul-result shared-slice-read-result cast-result returns returns-2)
+length-at-spec = tie.close (tie.spec mul-result shared-slice-read-result cast-result returns)

@@ -1,15 +1,19 @@
 -- `text::length::row_length` meets its contract: by the rows that it names.
 use mathlib.Core.Path.{sym, _∙_}
-use Rattle.text.proofs.Lengths.{names-none, cons-length, field-length, tag-length, leaf-length}
+use Rattle.text.proofs.Lengths.{names-cell, names-field, names-inner, names-none, names-below, cons-length, field-length, tag-length, leaf-length}
 use borrow.Author.Needs.{needs}
 use Rattle.text.proofs.length.row_length.Statement.{statement}
 use Rattle.text.proofs.length.row_length.Tie as tie
 
+-- back from the match to the call
+abbrev call : (c : tie.After-shared-slice-known) → tie.Start
+call c = c .before
+
 length-at-requires : tie.Need-length-at-requires
-length-at-requires c κs = search needs
+length-at-requires c κs = names-below _ _ (names-cell _ (c .match .keys1)) (call (c .before) .pre) .0
 
 length-at-requires-2 : tie.Need-length-at-requires-2
-length-at-requires-2 c κs = search needs
+length-at-requires-2 c κs = let kind = c .before in names-below _ _ (names-cell _ (kind .match .keys1)) (call (kind .before) .pre) .1 .0
 
 add-result : tie.Need-add-result
 add-result c = search needs
@@ -18,16 +22,16 @@ add-result-2 : tie.Need-add-result-2
 add-result-2 c = search needs
 
 length-at-requires-3 : tie.Need-length-at-requires-3
-length-at-requires-3 c κs = search needs
+length-at-requires-3 c κs = names-below _ _ (names-field _ (c .match .keys2)) (call (c .before) .pre) .0
 
 length-at-requires-4 : tie.Need-length-at-requires-4
-length-at-requires-4 c κs = search needs
+length-at-requires-4 c κs = let kind = c .before in names-below _ _ (names-field _ (kind .match .keys2)) (call (kind .before) .pre) .1 .0
 
 add-result-3 : tie.Need-add-result-3
 add-result-3 c = search needs
 
 length-at-requires-5 : tie.Need-length-at-requires-5
-length-at-requires-5 c κs = search needs
+length-at-requires-5 c κs = names-below _ _ (names-inner _ (c .match .keys3)) (call (c .before) .pre) .0
 
 cast-result : tie.Need-cast-result
 cast-result c = search needs

@@ -3,7 +3,7 @@ use Prim.Native.Nat.{_-_}
 use mathlib.Core.Path.{refl}
 use native.Mathlib.Omega.{arith}
 use lib.ListN.{length}
-use Rattle.text.proofs.Lengths.{Measuring, row-number, next-row, all-measured}
+use Rattle.text.proofs.Lengths.{Measuring, row-number, names-before, next-row, all-measured}
 use Rattle.text.proofs.measure.row_lengths.Statement.{statement}
 use Rattle.text.proofs.measure.row_lengths.Tie as tie
 
@@ -28,7 +28,10 @@ load-row-requires : tie.Need-load-row-requires Inv-loop μ-loop
 load-row-requires c κs = tt
 
 row-length-requires : tie.Need-row-length-requires Inv-loop μ-loop
-row-length-requires c κs = tt
+row-length-requires c κs =
+    let read = c .before in
+    let turn = read .before in
+    names-before _ _ _ _ _ (turn .before .loop .inv) (turn .loop-test .taken) (read .load-row .ensures)
 
 cap-requires : tie.Need-cap-requires Inv-loop μ-loop
 cap-requires c κs = tt
