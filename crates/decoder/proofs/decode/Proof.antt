@@ -1,7 +1,7 @@
 -- `decoder::decode` meets its contract: refusals 1 and 2 touch nothing; else the run with empty registers, and the tables settled.
 use mathlib.Core.Path.{sym}
 use Rattle.decoder.proofs.Decodes.{over, short, is-zeroed, decoded}
-use borrow.Author.Needs.{needs}
+use native.Mathlib.Omega.{arith}
 use Rattle.decoder.proofs.decode.Statement.{statement}
 use Rattle.decoder.proofs.decode.Tie as tie
 
@@ -28,28 +28,28 @@ returns-2 : tie.Need-returns-2
 returns-2 c = short _ _ (c .before .if1 .left) (c .if2 .taken)
 
 clear-requires : tie.Need-clear-requires
-clear-requires c κs = search needs
+clear-requires c κs = omega arith
 
 run-requires : tie.Need-run-requires
 run-requires c κs =
     let at = c .before .before .before .before .before .before in
     let p = passed at in
-    ((p .before .if1 .left, search needs), is-zeroed _ _ (at .clear .ensures))
+    ((p .before .if1 .left, omega arith), is-zeroed _ _ (at .clear .ensures))
 
 settle-requires : tie.Need-settle-requires
-settle-requires c κs = search needs
+settle-requires c κs = omega arith
 
 same-length : tie.Need-same-length
-same-length c = search needs
+same-length c = omega arith
 
 same-length-2 : tie.Need-same-length-2
-same-length-2 c = search needs
+same-length-2 c = omega arith
 
 same-length-3 : tie.Need-same-length-3
-same-length-3 c = search needs
+same-length-3 c = omega arith
 
 same-length-4 : tie.Need-same-length-4
-same-length-4 c = search needs
+same-length-4 c = omega arith
 
 returns-3 : tie.Need-returns-3
 returns-3 c =

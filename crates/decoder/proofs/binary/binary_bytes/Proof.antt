@@ -3,48 +3,47 @@ use mathlib.Core.Path.{_∙_}
 use native.Mathlib.Omega.{arith}
 use Rattle.decoder.proofs.Limits.{refusal}
 use Rattle.decoder.proofs.Binaries.{bytes-3, bytes-4, bytes-made}
-use borrow.Author.Needs.{needs}
 use Rattle.decoder.proofs.binary.binary_bytes.Statement.{statement}
 use Rattle.decoder.proofs.binary.binary_bytes.Tie as tie
 
 add-start : tie.Need-add-start
-add-start c = search needs
+add-start c = omega arith
 
 sub-if1 : tie.Need-sub-if1
-sub-if1 c = search needs
+sub-if1 c = omega arith
 
 returns : tie.Need-returns
 returns c mk rg h = refusal _ _ _ (bytes-3 _ _ _ _ (omega arith) (c .if1 .taken))
 
 add-end : tie.Need-add-end
-add-end c = search needs
+add-end c = omega arith
 
 shared-slice-read-if2 : tie.Need-shared-slice-read-if2
-shared-slice-read-if2 c = search needs
+shared-slice-read-if2 c = omega arith
 
 returns-2 : tie.Need-returns-2
 returns-2 c mk rg h = refusal _ _ _ (bytes-4 _ _ _ _ (omega arith) (c .before .before .if1 .left) (c .if2 .taken))
 
 sub-t10 : tie.Need-sub-t10
-sub-t10 c = search needs
+sub-t10 c = search
 
 add-t9 : tie.Need-add-t9
-add-t9 c = search needs
+add-t9 c = omega arith
 
 cast-t24 : tie.Need-cast-t24
-cast-t24 c = search needs
+cast-t24 c = omega arith
 
 cast-t25 : tie.Need-cast-t25
-cast-t25 c = search needs
+cast-t25 c = omega arith
 
 push-value-requires : tie.Need-push-value-requires
-push-value-requires c κs = search needs
+push-value-requires c κs = search
 
 same-length : tie.Need-same-length
-same-length c = search needs
+same-length c = search
 
 same-length-2 : tie.Need-same-length-2
-same-length-2 c = search needs
+same-length-2 c = search
 
 returns-3 : tie.Need-returns-3
 returns-3 c mk rg h =

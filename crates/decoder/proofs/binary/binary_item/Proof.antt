@@ -7,7 +7,7 @@ use Rattle.table.specs.Words.{lastFirst}
 use Rattle.decoder.proofs.Limits.{refusal}
 use Rattle.decoder.proofs.Answered.{only-no-integer}
 use Rattle.decoder.proofs.Binaries.{binary-few, binary-7, binary-8, binary-of}
-use borrow.Author.Needs.{needs}
+use native.Mathlib.Omega.{arith}
 use Rattle.decoder.proofs.binary.binary_item.Statement.{statement}
 use Rattle.decoder.proofs.binary.binary_item.Tie as tie
 
@@ -26,28 +26,28 @@ above : (c : tie.Else1) → base (lastFirst (now (call (read c) .args .marks)) (
 above c = rw (read c .base .ensures) at (c .if1 .left)
 
 base-requires : tie.Need-base-requires
-base-requires c κs = search needs
+base-requires c κs = search
 
 returns : tie.Need-returns
 returns c rg h = refusal _ _ _ (binary-few _ _ _ rg _ _ (rw (c .before .before .before .base .ensures) at (c .if1 .taken)))
 
 top-requires : tie.Need-top-requires
-top-requires c κs = search needs
+top-requires c κs = omega arith
 
 count-of-requires : tie.Need-count-of-requires
-count-of-requires c κs = search needs
+count-of-requires c κs = search
 
 enum-known-q : tie.Need-enum-known-q
-enum-known-q c = search needs
+enum-known-q c = search
 
 enum-told : tie.Need-enum-told
-enum-told c = search needs
+enum-told c = search
 
 same-length : tie.Need-same-length
-same-length c = search needs
+same-length c = search
 
 same-length-2 : tie.Need-same-length-2
-same-length-2 c = search needs
+same-length-2 c = search
 
 returns-2 : tie.Need-returns-2
 returns-2 c rg h =
@@ -55,10 +55,10 @@ returns-2 c rg h =
     refusal _ _ _ (binary-7 _ _ _ rg _ _ h (above (test e)) _ (e .top .ensures) (sym (c .before .before .count-of .ensures) ∙ only-no-integer _ (c .before .match .keys2) (c .match2 .keys2)))
 
 same-length-3 : tie.Need-same-length-3
-same-length-3 c = search needs
+same-length-3 c = search
 
 same-length-4 : tie.Need-same-length-4
-same-length-4 c = search needs
+same-length-4 c = search
 
 returns-3 : tie.Need-returns-3
 returns-3 c rg h =
@@ -66,13 +66,13 @@ returns-3 c rg h =
     refusal _ _ _ (binary-8 _ _ _ rg _ _ h (above (test e)) _ (e .top .ensures) (sym (c .before .before .before .count-of .ensures) ∙ c .enum-told .given .1))
 
 binary-bytes-requires : tie.Need-binary-bytes-requires
-binary-bytes-requires c κs = search needs
+binary-bytes-requires c κs = omega arith
 
 same-length-5 : tie.Need-same-length-5
-same-length-5 c = search needs
+same-length-5 c = search
 
 same-length-6 : tie.Need-same-length-6
-same-length-6 c = search needs
+same-length-6 c = search
 
 returns-4 : tie.Need-returns-4
 returns-4 c rg h =

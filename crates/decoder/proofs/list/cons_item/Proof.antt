@@ -9,7 +9,6 @@ use Rattle.table.specs.Words.{lastFirst}
 use Rattle.decoder.proofs.Limits.{refusal}
 use Rattle.decoder.proofs.Pops.{base-fits}
 use Rattle.decoder.proofs.Binaries.{cons-few, cons-7, cons-made}
-use borrow.Author.Needs.{needs}
 use Rattle.decoder.proofs.list.cons_item.Statement.{statement}
 use Rattle.decoder.proofs.list.cons_item.Tie as tie
 
@@ -28,7 +27,7 @@ above : (c : tie.Else1) → base (lastFirst (now (call (read c) .args .marks)) (
 above c = rw (read c .base .ensures) at (c .if1 .left)
 
 base-requires : tie.Need-base-requires
-base-requires c κs = search needs
+base-requires c κs = search
 
 add-if1 : tie.Need-add-if1
 add-if1 c =
@@ -40,19 +39,19 @@ returns : tie.Need-returns
 returns c rg r h = refusal _ _ _ (cons-few _ _ _ rg _ r (rw (c .before .before .before .base .ensures) at (c .if1 .taken)))
 
 sub-t11 : tie.Need-sub-t11
-sub-t11 c = search needs
+sub-t11 c = omega arith
 
 top-requires : tie.Need-top-requires
-top-requires c κs = search needs
+top-requires c κs = omega arith
 
 is-list-requires : tie.Need-is-list-requires
-is-list-requires c κs = search needs
+is-list-requires c κs = search
 
 same-length : tie.Need-same-length
-same-length c = search needs
+same-length c = search
 
 same-length-2 : tie.Need-same-length-2
-same-length-2 c = search needs
+same-length-2 c = search
 
 returns-2 : tie.Need-returns-2
 returns-2 c rg r h =
@@ -60,22 +59,22 @@ returns-2 c rg r h =
     refusal _ _ _ (cons-7 _ _ _ rg _ r h (above (test e)) _ _ refl (e .top .ensures) (sym (c .before .is-list .ensures) ∙ not-true _ (c .if2 .taken)))
 
 top-requires-2 : tie.Need-top-requires-2
-top-requires-2 c κs = search needs
+top-requires-2 c κs = omega arith
 
 sub-t11-2 : tie.Need-sub-t11-2
-sub-t11-2 c = search needs
+sub-t11-2 c = omega arith
 
 add-t25 : tie.Need-add-t25
-add-t25 c = search needs
+add-t25 c = omega arith
 
 push-value-requires : tie.Need-push-value-requires
-push-value-requires c κs = search needs
+push-value-requires c κs = search
 
 same-length-3 : tie.Need-same-length-3
-same-length-3 c = search needs
+same-length-3 c = search
 
 same-length-4 : tie.Need-same-length-4
-same-length-4 c = search needs
+same-length-4 c = search
 
 returns-3 : tie.Need-returns-3
 returns-3 c rg r h =

@@ -1,11 +1,10 @@
 -- `decoder::list::is_list` meets its contract.
 use Rattle.decoder.proofs.Binaries.{is-nil, is-cons}
-use borrow.Author.Needs.{needs}
 use Rattle.decoder.proofs.list.is_list.Statement.{statement}
 use Rattle.decoder.proofs.list.is_list.Tie as tie
 
 load-row-requires : tie.Need-load-row-requires
-load-row-requires c κs = search needs
+load-row-requires c κs = search
 
 returns : tie.Need-returns
 returns c = rw (← c .before .before .load-row .ensures) (is-nil _ (c .if1 .taken))

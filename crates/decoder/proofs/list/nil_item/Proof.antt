@@ -2,21 +2,20 @@
 use mathlib.Core.Path.{_∙_}
 use native.Mathlib.Omega.{arith}
 use Rattle.decoder.proofs.Binaries.{nil-made}
-use borrow.Author.Needs.{needs}
 use Rattle.decoder.proofs.list.nil_item.Statement.{statement}
 use Rattle.decoder.proofs.list.nil_item.Tie as tie
 
 add-t10 : tie.Need-add-t10
-add-t10 c = search needs
+add-t10 c = omega arith
 
 push-value-requires : tie.Need-push-value-requires
-push-value-requires c κs = search needs
+push-value-requires c κs = search
 
 same-length : tie.Need-same-length
-same-length c = search needs
+same-length c = search
 
 same-length-2 : tie.Need-same-length-2
-same-length-2 c = search needs
+same-length-2 c = search
 
 returns : tie.Need-returns
 returns c marks registers r h = c .before .before .before .before .push-value .ensures marks registers 0 h (omega arith) (omega arith) ∙ nil-made _ _ r

@@ -1,6 +1,6 @@
 -- `decoder::number::begun_by` meets its contract.
 use mathlib.Core.Path.{refl}
-use borrow.Author.Needs.{needs}
+use native.Mathlib.Omega.{arith}
 use borrow.Author.Tests.{eq-eqb, ne-eqb}
 use Rattle.decoder.specs.Readers.{begunBy}
 use Rattle.decoder.proofs.number.begun_by.Statement.{statement}
@@ -14,7 +14,7 @@ sub-t3 : tie.Need-sub-t3
 sub-t3 c = c .before .pre (c .if1 .left)
 
 cast-t4 : tie.Need-cast-t4
-cast-t4 c = search needs
+cast-t4 c = omega arith
 
 returns-2 : tie.Need-returns-2
 unfolding begunBy

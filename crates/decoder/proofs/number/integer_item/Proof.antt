@@ -1,7 +1,6 @@
 -- `decoder::number::integer_item` meets its contract: a value makes a row, and anything else is refused.
 use mathlib.Core.Path.{sym, _∙_}
 use native.Mathlib.Omega.{arith}
-use borrow.Author.Needs.{needs}
 use Rattle.decoder.specs.Answers.{tables}
 use Rattle.decoder.proofs.Answered.{rest-ends, not-value}
 use Rattle.decoder.proofs.Integers as laws
@@ -9,19 +8,19 @@ use Rattle.decoder.proofs.number.integer_item.Statement.{statement}
 use Rattle.decoder.proofs.number.integer_item.Tie as tie
 
 add-t11 : tie.Need-add-t11
-add-t11 c = search needs
+add-t11 c = omega arith
 
 begun-by-requires : tie.Need-begun-by-requires
-begun-by-requires c κs = search needs
+begun-by-requires c κs = search
 
 read-integer-requires : tie.Need-read-integer-requires
-read-integer-requires c κs = search needs
+read-integer-requires c κs = search
 
 enum-known-q : tie.Need-enum-known-q
-enum-known-q c = search needs
+enum-known-q c = search
 
 no-integer-requires : tie.Need-no-integer-requires
-no-integer-requires c κs = search needs
+no-integer-requires c κs = search
 
 returns : tie.Need-returns
 returns c mk rg _ =
@@ -29,19 +28,19 @@ returns c mk rg _ =
     rw (c .no-integer .ensures) (laws.no-integer (tables _ _ mk rg) _ _ _ _ (rest-ends _ _ (omega arith)) _ (rw (read .before .begun-by .ensures) at (read .read-integer .ensures)) (not-value _ (c .before .match .keys2)))
 
 cast-t21 : tie.Need-cast-t21
-cast-t21 c = search needs
+cast-t21 c = omega arith
 
 cast-t23 : tie.Need-cast-t23
-cast-t23 c = search needs
+cast-t23 c = omega arith
 
 push-value-requires : tie.Need-push-value-requires
-push-value-requires c κs = search needs
+push-value-requires c κs = search
 
 same-length : tie.Need-same-length
-same-length c = search needs
+same-length c = search
 
 same-length-2 : tie.Need-same-length-2
-same-length-2 c = search needs
+same-length-2 c = search
 
 returns-2 : tie.Need-returns-2
 returns-2 c mk rg h =

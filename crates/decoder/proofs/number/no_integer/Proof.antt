@@ -1,20 +1,19 @@
 -- `decoder::number::no_integer` meets its contract, arm by arm.
-use borrow.Author.Needs.{needs}
 use Rattle.decoder.specs.Readers.{noIntegerAs}
 use Rattle.decoder.proofs.number.no_integer.Statement.{statement}
 use Rattle.decoder.proofs.number.no_integer.Tie as tie
 
 enum-told : tie.Need-enum-told
-enum-told c = search needs
+enum-told c = search
 
 enum-known-q : tie.Need-enum-known-q
-enum-known-q c = search needs
+enum-known-q c = search
 
 enum-told-2 : tie.Need-enum-told-2
-enum-told-2 c = search needs
+enum-told-2 c = search
 
 enum-told-3 : tie.Need-enum-told-3
-enum-told-3 c = search needs
+enum-told-3 c = search
 
 returns : tie.Need-returns
 unfolding noIntegerAs

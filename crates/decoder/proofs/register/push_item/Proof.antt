@@ -2,39 +2,40 @@
 use mathlib.Core.Path.{refl}
 use Rattle.decoder.proofs.Limits.{refusal}
 use Rattle.decoder.proofs.Steps.{push-9, push-13, push-goes}
+use native.Mathlib.Omega.{arith}
 use borrow.Author.Needs.{needs}
 use Rattle.decoder.proofs.register.push_item.Statement.{statement}
 use Rattle.decoder.proofs.register.push_item.Tie as tie
 
 mul-held : tie.Need-mul-held
-mul-held c = search needs
+mul-held c = omega arith
 
 shared-slice-read-held : tie.Need-shared-slice-read-held
-shared-slice-read-held c = search needs
+shared-slice-read-held c = omega arith
 
 returns : tie.Need-returns
 returns c w mk r h = refusal _ _ _ (push-9 w _ mk _ _ r _ _ refl (c .if1 .taken))
 
 room-requires : tie.Need-room-requires
-room-requires c κs = search needs
+room-requires c κs = search
 
 returns-2 : tie.Need-returns-2
 returns-2 c w mk r h = refusal _ _ _ (push-13 w _ mk _ _ r _ _ refl h (c .before .before .if1 .left) (rw (c .before .room .ensures) at (c .if2 .taken)))
 
 sub-stack : tie.Need-sub-stack
-sub-stack c = search needs
+sub-stack c = omega arith
 
 mul-stack : tie.Need-mul-stack
-mul-stack c = search needs
+mul-stack c = omega arith
 
 slice-write-stack : tie.Need-slice-write-stack
-slice-write-stack c = search needs
+slice-write-stack c = omega arith
 
 add-t15 : tie.Need-add-t15
-add-t15 c = search needs
+add-t15 c = omega arith
 
 add-t11 : tie.Need-add-t11
-add-t11 c = search needs
+add-t11 c = omega arith
 
 same-length : tie.Need-same-length
 same-length c = search needs

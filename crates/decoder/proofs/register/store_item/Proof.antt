@@ -9,16 +9,16 @@ use Rattle.decoder.proofs.register.store_item.Statement.{statement}
 use Rattle.decoder.proofs.register.store_item.Tie as tie
 
 add-registers : tie.Need-add-registers
-add-registers c = search needs
+add-registers c = omega arith
 
 read-register-requires : tie.Need-read-register-requires
-read-register-requires c κs = search needs
+read-register-requires c κs = search
 
 enum-known-q : tie.Need-enum-known-q
-enum-known-q c = search needs
+enum-known-q c = search
 
 enum-known-q-2 : tie.Need-enum-known-q-2
-enum-known-q-2 c = search needs
+enum-known-q-2 c = search
 
 returns : tie.Need-returns
 returns c rows _ =
@@ -32,7 +32,7 @@ returns-2 c rows _ =
     laws.store-stray rows _ _ _ _ _ _ (sym (read .read-register .ensures) ∙ at .q2 .given .1)
 
 base-requires : tie.Need-base-requires
-base-requires c κs = search needs
+base-requires c κs = omega arith
 
 returns-3 : tie.Need-returns-3
 unfolding turn
@@ -42,10 +42,10 @@ returns-3 c rows _ =
     sym (laws.store-few rows _ _ _ _ _ _ _ (sym (at .before .before .read-register .ensures) ∙ at .q .given .1) (rw (based .base .ensures) at (c .if1 .taken)))
 
 top-requires : tie.Need-top-requires
-top-requires c κs = search needs
+top-requires c κs = omega arith
 
 cast-i : tie.Need-cast-i
-cast-i c = search needs
+cast-i c = omega arith
 
 add-registers-2 : tie.Need-add-registers-2
 add-registers-2 c =
@@ -57,13 +57,13 @@ add-registers-2 c =
     omega (arith, entry .pre .1 .1 .1 .1 (omega arith), topped .top .ensures)
 
 mul-registers : tie.Need-mul-registers
-mul-registers c = search needs
+mul-registers c = omega arith
 
 slice-write-registers : tie.Need-slice-write-registers
-slice-write-registers c = search needs
+slice-write-registers c = omega arith
 
 sub-t17 : tie.Need-sub-t17
-sub-t17 c = search needs
+sub-t17 c = omega arith
 
 same-length : tie.Need-same-length
 same-length c = search needs

@@ -1,7 +1,7 @@
 -- `decoder::run::end_item` meets its contract: a mark is noted, the depth is not 1, or the one value.
 use Rattle.decoder.proofs.Limits.{refusal}
 use Rattle.decoder.proofs.Steps.{end-10, end-11, end-done}
-use borrow.Author.Needs.{needs}
+use native.Mathlib.Omega.{arith}
 use Rattle.decoder.proofs.run.end_item.Statement.{statement}
 use Rattle.decoder.proofs.run.end_item.Tie as tie
 
@@ -12,7 +12,7 @@ returns-2 : tie.Need-returns-2
 returns-2 c w mk rg r = refusal _ _ _ (end-11 w _ mk rg _ r (c .before .before .if1 .left) (c .if2 .taken))
 
 top-requires : tie.Need-top-requires
-top-requires c κs = search needs
+top-requires c κs = omega arith
 
 returns-3 : tie.Need-returns-3
 returns-3 c w mk rg r = end-done w _ mk rg _ r (c .before .before .before .if1 .left) (c .before .if2 .left) _ (c .top .ensures)

@@ -5,7 +5,6 @@ use mathlib.Core.List.{_∷_}
 use native.Mathlib.Omega.{arith}
 use lib.ListN.{length, drop, getD}
 use denote.Ref.{now}
-use borrow.Author.Needs.{needs}
 use Rattle.format.specs.Answer.{Tables, limitsOf, SameLengths}
 use Rattle.format.specs.Machine.{run}
 use Rattle.format.specs.Rows.{rowValues}
@@ -79,7 +78,7 @@ refuses : (c : tie.After-step Inv-loop μ-loop) (n : ℕ) (p : Offset) → c .st
 refuses c n p e = stopped _ _ _ _ (kept c) _ _ (head (test c) .loop .inv) (first (test c)) n p (rw e at (c .step .ensures)) _
 
 classes-requires : tie.Need-classes-requires Inv-loop μ-loop
-classes-requires c κs = search needs
+classes-requires c κs = search
 
 loop-holds : tie.Need-loop-holds Inv-loop μ-loop
 loop-holds c =
@@ -102,7 +101,7 @@ returns : tie.Need-returns Inv-loop μ-loop
 returns c = over _ _ _ _ (c .before .before .loop .inv) (c .if1 .taken) _
 
 shared-slice-read-b : tie.Need-shared-slice-read-b Inv-loop μ-loop
-shared-slice-read-b c = search needs
+shared-slice-read-b c = search
 
 step-requires : tie.Need-step-requires Inv-loop μ-loop
 step-requires c κs =
@@ -111,7 +110,7 @@ step-requires c κs =
     ((e .if1 .left, call (head e) .pre .0 .0), (head e .loop .inv .before .ready, head e .before .classes .ensures _ (omega (arith, read .shared-slice-known2 .given (head e .loop .s .at .0)))))
 
 enum-known-a : tie.Need-enum-known-a Inv-loop μ-loop
-enum-known-a c = search needs
+enum-known-a c = search
 
 loop-less : tie.Need-loop-less Inv-loop μ-loop
 loop-less c =
@@ -122,7 +121,7 @@ loop-again : tie.Need-loop-again Inv-loop μ-loop
 loop-again c = more (stepped (c .before .before .before)) _ (c .before .a .given .1) .0
 
 enum-known-a-2 : tie.Need-enum-known-a-2 Inv-loop μ-loop
-enum-known-a-2 c = search needs
+enum-known-a-2 c = search
 
 add-t35 : tie.Need-add-t35 Inv-loop μ-loop
 add-t35 c =
@@ -145,7 +144,7 @@ returns-2 : tie.Need-returns-2 Inv-loop μ-loop
 returns-2 c = ends (stepped (c .before .before .before)) _ (c .before .a2 .given .1)
 
 enum-known-a-3 : tie.Need-enum-known-a-3 Inv-loop μ-loop
-enum-known-a-3 c = search needs
+enum-known-a-3 c = search
 
 same-length-9 : tie.Need-same-length-9 Inv-loop μ-loop
 same-length-9 c = sym (all-kept (stepped (c .before .before .before)) .rows)

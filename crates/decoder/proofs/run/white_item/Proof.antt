@@ -1,11 +1,11 @@
 -- `decoder::run::white_item` meets its contract.
 use Rattle.decoder.proofs.Steps.{white}
-use borrow.Author.Needs.{needs}
+use native.Mathlib.Omega.{arith}
 use Rattle.decoder.proofs.run.white_item.Statement.{statement}
 use Rattle.decoder.proofs.run.white_item.Tie as tie
 
 add-t4 : tie.Need-add-t4
-add-t4 c = search needs
+add-t4 c = omega arith
 
 returns : tie.Need-returns
 returns c t r h = white t _ h r

@@ -1,7 +1,7 @@
 -- `decoder::state::base` meets its contract.
 use mathlib.Core.Path.{_∙_}
 use Rattle.decoder.proofs.Pops.{base-none, base-last}
-use borrow.Author.Needs.{needs}
+use native.Mathlib.Omega.{arith}
 use Rattle.decoder.proofs.state.base.Statement.{statement}
 use Rattle.decoder.proofs.state.base.Tie as tie
 
@@ -9,19 +9,19 @@ returns : tie.Need-returns
 returns c = base-none _ _ (c .if1 .taken)
 
 sub-i : tie.Need-sub-i
-sub-i c = search needs
+sub-i c = omega arith
 
 cast-i : tie.Need-cast-i
-cast-i c = search needs
+cast-i c = omega arith
 
 mul-depth-of : tie.Need-mul-depth-of
-mul-depth-of c = search needs
+mul-depth-of c = omega arith
 
 shared-slice-read-depth-of : tie.Need-shared-slice-read-depth-of
-shared-slice-read-depth-of c = search needs
+shared-slice-read-depth-of c = omega arith
 
 depth-of-requires : tie.Need-depth-of-requires
-depth-of-requires c κs = search needs
+depth-of-requires c κs = search
 
 returns-2 : tie.Need-returns-2
 returns-2 c = c .depth-of .ensures ∙ base-last _ _ (c .before .before .if1 .left)

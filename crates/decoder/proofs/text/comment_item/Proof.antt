@@ -2,7 +2,6 @@
 use Prim.Native.Char.{code}
 use mathlib.Core.Path.{sym, _∙_}
 use native.Mathlib.Omega.{arith}
-use borrow.Author.Needs.{needs}
 use Rattle.format.specs.Lex.{commentItem}
 use Rattle.decoder.proofs.Answered.{rest-ends, not-closed}
 use Rattle.decoder.proofs.Spans as laws
@@ -10,16 +9,16 @@ use Rattle.decoder.proofs.text.comment_item.Statement.{statement}
 use Rattle.decoder.proofs.text.comment_item.Tie as tie
 
 add-t7 : tie.Need-add-t7
-add-t7 c = search needs
+add-t7 c = omega arith
 
 read-quoted-requires : tie.Need-read-quoted-requires
-read-quoted-requires c κs = search needs
+read-quoted-requires c κs = search
 
 enum-known-q : tie.Need-enum-known-q
-enum-known-q c = search needs
+enum-known-q c = search
 
 unclosed-requires : tie.Need-unclosed-requires
-unclosed-requires c κs = search needs
+unclosed-requires c κs = search
 
 returns : tie.Need-returns
 returns c t _ =

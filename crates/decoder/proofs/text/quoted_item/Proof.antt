@@ -1,7 +1,6 @@
 -- `decoder::text::quoted_item` meets its contract: closed text makes a row, and other text is refused.
 use mathlib.Core.Path.{sym, _∙_}
 use native.Mathlib.Omega.{arith}
-use borrow.Author.Needs.{needs}
 use Rattle.decoder.specs.Answers.{tables}
 use Rattle.decoder.proofs.Answered.{rest-ends, shorter, not-closed}
 use Rattle.decoder.proofs.Spans as laws
@@ -9,16 +8,16 @@ use Rattle.decoder.proofs.text.quoted_item.Statement.{statement}
 use Rattle.decoder.proofs.text.quoted_item.Tie as tie
 
 add-start : tie.Need-add-start
-add-start c = search needs
+add-start c = omega arith
 
 read-quoted-requires : tie.Need-read-quoted-requires
-read-quoted-requires c κs = search needs
+read-quoted-requires c κs = search
 
 enum-known-q : tie.Need-enum-known-q
-enum-known-q c = search needs
+enum-known-q c = search
 
 unclosed-requires : tie.Need-unclosed-requires
-unclosed-requires c κs = search needs
+unclosed-requires c κs = search
 
 returns : tie.Need-returns
 returns c mk rg item _ _ =
@@ -26,7 +25,7 @@ returns c mk rg item _ _ =
     rw (c .unclosed .ensures) (laws.unclosed _ (tables _ _ mk rg) _ _ item _ (rest-ends _ _ (omega arith)) _ (read .read-quoted .ensures) (not-closed _ (c .before .match .keys2)))
 
 cast-t19 : tie.Need-cast-t19
-cast-t19 c = search needs
+cast-t19 c = omega arith
 
 cast-t20 : tie.Need-cast-t20
 cast-t20 c =
@@ -34,13 +33,13 @@ cast-t20 c =
     omega (arith, shorter _ _ _ _ _ (sym (at .before .before .read-quoted .ensures) ∙ at .q .given .1))
 
 push-value-requires : tie.Need-push-value-requires
-push-value-requires c κs = search needs
+push-value-requires c κs = search
 
 same-length : tie.Need-same-length
-same-length c = search needs
+same-length c = search
 
 same-length-2 : tie.Need-same-length-2
-same-length-2 c = search needs
+same-length-2 c = search
 
 returns-2 : tie.Need-returns-2
 returns-2 c mk rg item h f =

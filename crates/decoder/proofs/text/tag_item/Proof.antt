@@ -3,7 +3,6 @@ use Prim.Native.Nat.{_≤_}
 use Prim.Native.Char.{code}
 use mathlib.Core.Path.{sym, _∙_}
 use native.Mathlib.Omega.{arith}
-use borrow.Author.Needs.{needs}
 use Rattle.format.specs.Bound.{messageBound}
 use Rattle.format.specs.Lex.{tagItem}
 use Rattle.decoder.specs.Answers.{tables}
@@ -18,16 +17,16 @@ within : (c : tie.After-q) → c .q .given .0 .0 ≤ messageBound
 within c = omega (arith, shorter _ _ _ _ _ (sym (c .before .before .read-quoted .ensures) ∙ c .q .given .1))
 
 add-start : tie.Need-add-start
-add-start c = search needs
+add-start c = omega arith
 
 read-quoted-requires : tie.Need-read-quoted-requires
-read-quoted-requires c κs = search needs
+read-quoted-requires c κs = search
 
 enum-known-q : tie.Need-enum-known-q
-enum-known-q c = search needs
+enum-known-q c = search
 
 unclosed-requires : tie.Need-unclosed-requires
-unclosed-requires c κs = search needs
+unclosed-requires c κs = search
 
 returns : tie.Need-returns
 returns c rg _ =
@@ -35,7 +34,7 @@ returns c rg _ =
     rw (c .unclosed .ensures) (laws.unclosed (code "`") (tables _ _ _ rg) _ _ tagItem _ (rest-ends _ _ (omega arith)) _ (read .read-quoted .ensures) (not-closed _ (c .before .match .keys2)))
 
 base-requires : tie.Need-base-requires
-base-requires c κs = search needs
+base-requires c κs = search
 
 returns-2 : tie.Need-returns-2
 unfolding turn
@@ -45,13 +44,13 @@ returns-2 c rg _ =
     sym (laws.tag-few _ _ _ rg _ _ _ _ (sym (at .before .before .read-quoted .ensures) ∙ at .q .given .1) (rw (based .base .ensures) at (c .if1 .taken)))
 
 top-requires : tie.Need-top-requires
-top-requires c κs = search needs
+top-requires c κs = omega arith
 
 sub-t25 : tie.Need-sub-t25
-sub-t25 c = search needs
+sub-t25 c = omega arith
 
 cast-t27 : tie.Need-cast-t27
-cast-t27 c = search needs
+cast-t27 c = omega arith
 
 cast-t28 : tie.Need-cast-t28
 cast-t28 c =
@@ -60,13 +59,13 @@ cast-t28 c =
     omega (arith, within at)
 
 push-value-requires : tie.Need-push-value-requires
-push-value-requires c κs = search needs
+push-value-requires c κs = search
 
 same-length : tie.Need-same-length
-same-length c = search needs
+same-length c = search
 
 same-length-2 : tie.Need-same-length-2
-same-length-2 c = search needs
+same-length-2 c = search
 
 returns-3 : tie.Need-returns-3
 returns-3 c rg h =

@@ -1,12 +1,11 @@
 -- `decoder::text::unclosed` meets its contract: of the answers that are not stray, both refuse at the slice's end.
-use borrow.Author.Needs.{needs}
 use Rattle.decoder.specs.Readers.{unclosedAs}
 use Rattle.decoder.proofs.Answered.{not-stray}
 use Rattle.decoder.proofs.text.unclosed.Statement.{statement}
 use Rattle.decoder.proofs.text.unclosed.Tie as tie
 
 enum-known-q : tie.Need-enum-known-q
-enum-known-q c = search needs
+enum-known-q c = search
 
 returns : tie.Need-returns
 returns c = not-stray _ _ (c .match .keys2)

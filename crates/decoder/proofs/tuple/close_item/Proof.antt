@@ -39,22 +39,22 @@ returns : tie.Need-returns
 returns c rg r h = refusal _ _ _ (close-10 _ _ _ rg _ r (c .if1 .taken))
 
 base-requires : tie.Need-base-requires
-base-requires c κs = search needs
+base-requires c κs = search
 
 returns-2 : tie.Need-returns-2
 returns-2 c rg r h = refusal _ _ _ (close-17 _ _ _ rg _ r _ (marked (c .before .before .before)) (c .before .before .base .ensures) (c .if2 .taken))
 
 row-room-requires : tie.Need-row-room-requires
-row-room-requires c κs = search needs
+row-room-requires c κs = search
 
 cast-if3 : tie.Need-cast-if3
-cast-if3 c = search needs
+cast-if3 c = omega arith
 
 add-if3 : tie.Need-add-if3
-add-if3 c = search needs
+add-if3 c = omega arith
 
 same-length : tie.Need-same-length
-same-length c = search needs
+same-length c = search
 
 returns-3 : tie.Need-returns-3
 returns-3 c rg r h =
@@ -62,10 +62,10 @@ returns-3 c rg r h =
     refusal _ _ _ (close-12 _ _ _ rg _ r _ (marked (first e)) (e .before .before .base .ensures) (e .if2 .left) (rw (c .before .before .row-room .ensures) at (c .if3 .taken)))
 
 room-requires : tie.Need-room-requires
-room-requires c κs = search needs
+room-requires c κs = search
 
 same-length-2 : tie.Need-same-length-2
-same-length-2 c = search needs
+same-length-2 c = search
 
 returns-4 : tie.Need-returns-4
 returns-4 c rg r h =
@@ -81,29 +81,29 @@ unfolding rowRoom
 add-last c = omega (arith, row-left (third (c .before)))
 
 store-tuple-requires : tie.Need-store-tuple-requires
-store-tuple-requires c κs = search needs
+store-tuple-requires c κs = search
 
 mul-stack : tie.Need-mul-stack
-mul-stack c = search needs
+mul-stack c = omega arith
 
 slice-write-stack : tie.Need-slice-write-stack
-slice-write-stack c = search needs
+slice-write-stack c = omega arith
 
 add-t15 : tie.Need-add-t15
-add-t15 c = search needs
+add-t15 c = omega arith
 
 add-t20 : tie.Need-add-t20
 unfolding rowRoom
 add-t20 c = omega (arith, row-left (third (c .before .before .before .before .before .before)))
 
 add-t19 : tie.Need-add-t19
-add-t19 c = search needs
+add-t19 c = omega arith
 
 sub-t30 : tie.Need-sub-t30
-sub-t30 c = search needs
+sub-t30 c = omega arith
 
 same-length-3 : tie.Need-same-length-3
-same-length-3 c = search needs
+same-length-3 c = search
 
 same-length-4 : tie.Need-same-length-4
 same-length-4 c = search needs

@@ -18,44 +18,44 @@ stack-left : (c : tie.Else2) → c .before .before .before .before .before .befo
 stack-left c = rw (c .before .room .ensures) at (c .if2 .left)
 
 row-room-requires : tie.Need-row-room-requires
-row-room-requires c κs = search needs
+row-room-requires c κs = search
 
 cast-if1 : tie.Need-cast-if1
-cast-if1 c = search needs
+cast-if1 c = omega arith
 
 same-length : tie.Need-same-length
-same-length c = search needs
+same-length c = search
 
 returns : tie.Need-returns
 returns c mk rg k h l e = refusal _ _ _ (made-12 _ _ mk rg _ _ k _ (rw (c .before .row-room .ensures) at (c .if1 .taken)))
 
 room-requires : tie.Need-room-requires
-room-requires c κs = search needs
+room-requires c κs = search
 
 same-length-2 : tie.Need-same-length-2
-same-length-2 c = search needs
+same-length-2 c = search
 
 returns-2 : tie.Need-returns-2
 returns-2 c mk rg k h l e = refusal _ _ _ (made-13 _ _ mk rg _ _ k _ (row-left (c .before .before)) (rw (c .before .room .ensures) at (c .if2 .taken)))
 
 store-row-requires : tie.Need-store-row-requires
-store-row-requires c κs = search needs
+store-row-requires c κs = search
 
 mul-stack : tie.Need-mul-stack
-mul-stack c = search needs
+mul-stack c = omega arith
 
 slice-write-stack : tie.Need-slice-write-stack
-slice-write-stack c = search needs
+slice-write-stack c = omega arith
 
 add-t20 : tie.Need-add-t20
 unfolding rowRoom
 add-t20 c = omega (arith, row-left (c .before .before .before .before .before .before))
 
 add-t14 : tie.Need-add-t14
-add-t14 c = search needs
+add-t14 c = omega arith
 
 same-length-3 : tie.Need-same-length-3
-same-length-3 c = search needs
+same-length-3 c = search
 
 same-length-4 : tie.Need-same-length-4
 same-length-4 c = search needs
