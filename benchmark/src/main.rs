@@ -12,6 +12,7 @@ const USAGE: &str = "\
 usage: bench            measures all and prints the report in Markdown
        bench --write    puts it into docs/BENCHMARKS.md too, and the plot into docs/benchmarks.svg
        bench quick [decode|write] [SIZE]    the library beside careful and tuned C, in a few seconds
+       bench quick words                    the same for the readers of words
        bench once [decode|write] MIX SIZE CONTENDER COUNT    calls one of them so often, for a profiler
 MIX and CONTENDER are the beginnings of names, SIZE is in bytes";
 
@@ -29,6 +30,10 @@ fn main() -> ExitCode {
         }
         ["quick"] => quick("decode", SIZES[1]),
         ["quick", function @ ("decode" | "write")] => quick(function, SIZES[1]),
+        ["quick", "words"] => {
+            quick_words();
+            Ok(())
+        }
         ["quick", size] => number(size).and_then(|size| quick("decode", size)),
         ["quick", function @ ("decode" | "write"), size] => {
             number(size).and_then(|size| quick(function, size))
@@ -121,6 +126,21 @@ fn quick(function: &str, size: usize) -> Result<(), String> {
         println!("{:19} {bytes:6} {rows:6} |{cells}", mix.name);
     }
     Ok(())
+}
+
+/// Every reader of words on every block, a line for each block: million words/s at the best and the median time, and ratio.
+fn quick_words() {
+    println!("for each: million words/s at the best and the median time, ratio");
+    for (name, case) in words::section().shown() {
+        let cells = case.measures.iter().map(|measure| {
+            let [best, median] = [measure.time.best, measure.time.median]
+                .map(|seconds| case.units as f64 / seconds / 1e6);
+            let ratio = case.ratio(measure);
+            format!(" {} {best:.1} {median:.1} {ratio:.2}", measure.name)
+        });
+        let cells = cells.collect::<Vec<String>>().join(" |");
+        println!("{name}:{cells}");
+    }
 }
 
 /// MB/s at the best and the median time, and millions of rows a second at the median.

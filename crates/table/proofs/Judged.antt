@@ -7,20 +7,12 @@ use native.Mathlib.Numerals.{add-one}
 use native.Mathlib.Omega.{arith}
 use lib.ListN.{length, getD, take, drop, drop-of-length-le}
 use lib.Seq.{take-suc, drop-cons, getD-take, length-take-le}
-use lib.Dec.{T, eqb}
+use lib.Dec.{T}
 use Rattle.format.specs.Rows.{Row, row, consKind, fieldKind, rowAt, rowsOf, rowRoom}
 use Rattle.format.specs.Sound.{soundRow, soundRest, soundAfter, soundRows}
 use Rattle.format.proofs.TableRows.{length-rows, cons-earlier, field-earlier, rest-kind}
-use Rattle.format.proofs.Tests.{None, is-none}
 use Rattle.table.specs.Words.{rowIn}
 use Rattle.table.proofs.Rows.{row-of}
-
--- a kind that is none of the nine
-pub no-kind : (message : List ℕ) (i : ℕ) (r : Row) → None 1 9 (r .kind) → soundRow message i r ≡ false
-unfolding soundRow
-no-kind message i r h =
-    let none : (j : ℕ) → 1 ≤ j → j < 10 → eqb (r .kind) j ≡ false = is-none 1 9 (r .kind) h in
-    rw (none 1 (omega arith) (omega arith), none 2 (omega arith) (omega arith), none 3 (omega arith) (omega arith), none 4 (omega arith) (omega arith), none 5 (omega arith) (omega arith), none 6 (omega arith) (omega arith), none 7 (omega arith) (omega arith), none 8 (omega arith) (omega arith), none 9 (omega arith) (omega arith))
 
 module _ (message words : List ℕ) (used : ℕ) where
   abbrev rows : List Row

@@ -3,10 +3,11 @@ use Prim.Native.Nat.{ℕ, suc, _+_, _-_, _≤_, _<_}
 use mathlib.Core.Path.{_≡_, refl, _∙_}
 use mathlib.Core.Bool.{Bool, true, false, _&&_, and-true}
 use mathlib.Core.List.{List, [], _∷_}
+use native.Mathlib.Nat.{sub-zero}
 use native.Mathlib.Numerals.{add-one}
 use native.Mathlib.Omega.{arith}
 use lib.ListN.{length, getD}
-use lib.Seq.{drop-cons}
+use lib.Seq.{drop-cons, take-length}
 use borrow.Author.Tests.{eq-eqb, ne-eqb}
 use Rattle.format.specs.Plain.{isMark, plainEnd}
 use Rattle.format.specs.Rows.{spanOf}
@@ -99,3 +100,7 @@ module _ (message : List ℕ) (quote end : ℕ) where
 
             pub run-follows : spelled quote true (getD message (p + 1) 0 ∷ []) ≡ true → from i ≡ from ((p + 1) + 1)
             run-follows s = run ∙ passes-both p b stays backslash l s
+
+-- all of the bytes, from the first to the last
+pub begins : (text : List ℕ) (quote : ℕ) → from text quote (length text) 0 ≡ spelled quote false text
+begins text quote = rw (sub-zero (length text), take-length text)

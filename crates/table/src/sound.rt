@@ -2,11 +2,12 @@
 ghost use mathlib.Core.Bool.{true, false, _&&_};
 ghost use mathlib.Core.List.{[], _∷_};
 ghost use mathlib.Core.Path.{_≡_};
-ghost use Prim.Native.Nat.{_-_, _≤_, _<_};
+ghost use Prim.Native.Nat.{_≤_, _<_};
 ghost use lib.Dec.{eqb, ltb};
 ghost use lib.ListN.{length};
-ghost use Rattle.format.specs.Rows.{consKind, fieldKind, isListKind, isTupleKind, spanOf, rowsOf, rowRoom};
-ghost use Rattle.format.specs.Sound.{spelled, inSlice, spelledIn, countFits, rootAmong, soundRow, soundRest, soundRows, soundTable};
+ghost use Rattle.format.specs.Rows.{consKind, fieldKind, isListKind, isTupleKind, rowsOf, rowRoom};
+ghost use Rattle.format.specs.Sound.{spelled, inSlice, spelledIn, countFits, rootAmong, soundRest, soundRows, soundTable};
+ghost use Rattle.table.specs.Parts.{soundWords, quoteOf, soundText};
 ghost use Rattle.table.specs.Words.{rowOf, rowIn};
 use crate::RowWords;
 use crate::read_row;
@@ -34,25 +35,24 @@ fn may_follow(b: u8, quote: u8) -> bool
     b == quote
 }
 
-// Whether the bytes from `start` up to `end` may stand between two quotes: no bad escape, and no quote that would close them.
-fn is_spelled(message: &[u8], quote: u8, start: usize, end: usize) -> bool
-    requires { ⌜ (start ≤ end) × (end ≤ length (now message)) ⌝ }
-    ensures { λ r. ⌜ r ≡ spelled quote false (spanOf (now (message .entry)) start (end - start)) ⌝ }
+// Whether bytes may stand between two quotes: no bad escape, and no quote that would close them.
+fn is_spelled(text: &[u8], quote: u8) -> bool
+    ensures { λ r. ⌜ r ≡ spelled quote false (now (text .entry)) ⌝ }
 {
-    let mut i = start;
-    while i < end {
-        let p = plain::plain_end_by_blocks(message, i, end, quote);
-        if end <= p {
+    let mut i = 0;
+    while i < text.len() {
+        let p = plain::plain_end_by_blocks(text, i, text.len(), quote);
+        if text.len() <= p {
             return true;
         }
-        if message[p] == quote {
+        if text[p] == quote {
             return false;
         }
         let next = p + 1;
-        if end <= next {
+        if text.len() <= next {
             return false;
         }
-        if !may_follow(message[next], quote) {
+        if !may_follow(text[next], quote) {
             return false;
         }
         i = next + 1;
@@ -68,21 +68,12 @@ fn spelled_in(message: &[u8], quote: u8, start: u32, n: u32) -> bool
         return false;
     }
     let from = start as usize;
-    is_spelled(message, quote, from, from + (n as usize))
+    let end = from + (n as usize);
+    is_spelled(&message[from..end], quote)
 }
 
-// Whether an atom or a string is sound: its spare word is zero, and its bytes may stand between two quotes.
-fn sound_text(message: &[u8], quote: u8, words: RowWords) -> bool
-    ensures { λ r. ⌜ r ≡ (eqb (words .third) 0 && spelledIn (now (message .entry)) quote (words .first) (words .second)) ⌝ }
-{
-    if words.third != 0 {
-        return false;
-    }
-    spelled_in(message, quote, words.first, words.second)
-}
-
-// Whether a binary is sound: its spare word is zero, and its bytes, which may be any, lie inside the slice.
-fn sound_binary(message: &[u8], words: RowWords) -> bool
+// Whether an atom, a string or a binary is sound by its words: its spare word is zero, and its span lies inside the slice.
+fn sound_span(message: &[u8], words: RowWords) -> bool
     ensures { λ r. ⌜ r ≡ (eqb (words .third) 0 && inSlice (now (message .entry)) (words .first) (words .second)) ⌝ }
 {
     if words.third != 0 {
@@ -117,17 +108,16 @@ fn sound_cell(n: Row, words: RowWords) -> bool
     words.second < n.0
 }
 
-// Whether row n is sound by its own words and bytes: its kind is known, its spare words are zero, its span lies in the slice as it
-// may be spelled there, and it refers to earlier rows only.
-pub fn sound_row(message: &[u8], n: Row, words: RowWords) -> bool
-    ensures { λ r. ⌜ r ≡ soundRow (now (message .entry)) (n .0) (rowOf words) ⌝ }
+// Whether row n is sound by its words: its kind is known, its spare words are zero, its span lies in the slice, and it refers to earlier rows only.
+pub fn sound_words(message: &[u8], n: Row, words: RowWords) -> bool
+    ensures { λ r. ⌜ r ≡ soundWords (now (message .entry)) (n .0) (rowOf words) ⌝ }
 {
     let k = words.kind;
     match k {
         kind::INTEGER => words.third == 0,
-        kind::ATOM => sound_text(message, byte::ATOM_QUOTE, words),
-        kind::STRING => sound_text(message, byte::STRING_QUOTE, words),
-        kind::BINARY => sound_binary(message, words),
+        kind::ATOM => sound_span(message, words),
+        kind::STRING => sound_span(message, words),
+        kind::BINARY => sound_span(message, words),
         kind::NIL => sound_end(words),
         kind::CONS => sound_cell(n, words),
         kind::END => sound_end(words),
@@ -136,10 +126,34 @@ pub fn sound_row(message: &[u8], n: Row, words: RowWords) -> bool
             if n.0 <= words.third {
                 return false;
             }
-            spelled_in(message, byte::TAG_QUOTE, words.first, words.second)
+            in_slice(message, words.first, words.second)
         }
         _ => false,
     }
+}
+
+// The quote of the texts of a kind; 0 for a kind that has none.
+fn quote_of(k: u32) -> u8
+    ensures { λ r. ⌜ r ≡ quoteOf k ⌝ }
+{
+    match k {
+        kind::ATOM => byte::ATOM_QUOTE,
+        kind::STRING => byte::STRING_QUOTE,
+        kind::TAG => byte::TAG_QUOTE,
+        _ => 0,
+    }
+}
+
+// Whether a row is sound by its text: that of an atom, a string or a tag lies inside the slice, as it may be spelled there. Asked apart from its words, since a
+// function for both would be too large for the compiler to put into the loops over rows.
+pub fn sound_text(message: &[u8], words: RowWords) -> bool
+    ensures { λ r. ⌜ r ≡ soundText (now (message .entry)) (rowOf words) ⌝ }
+{
+    let quote = quote_of(words.kind);
+    if quote == 0 {
+        return true;
+    }
+    spelled_in(message, quote, words.first, words.second)
 }
 
 // Whether a row of this kind is a list.
@@ -217,7 +231,10 @@ fn sound_rows(message: &[u8], rows: &[u32], used: u32) -> bool
     let mut i = 0;
     while i < used {
         let words = read_row(rows, Row(i));
-        if !sound_row(message, Row(i), words) {
+        if !sound_words(message, Row(i), words) {
+            return false;
+        }
+        if !sound_text(message, words) {
             return false;
         }
         if !rest_fits(rows, words) {

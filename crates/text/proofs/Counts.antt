@@ -14,11 +14,11 @@ use Rattle.format.specs.Bound.{rowBound}
 use Rattle.format.specs.Rows.{Row, rowAt, rowsOf, rowRoom, termAt}
 use Rattle.format.specs.Sound.{soundRows, soundTable}
 use Rattle.format.specs.Text.{plain}
-use Rattle.format.proofs.TableRows.{length-rows, Passed, passed}
+use Rattle.format.proofs.TableRows.{length-rows, judged, Passed, passed}
 use Rattle.table.specs.Words.{lastFirst, rowIn}
 use Rattle.table.proofs.Rows.{row-of, pushed, length-lastFirst}
 use Rattle.text.specs.Lengths.{textLength, named, ownLength, total, rowLength}
-use Rattle.text.proofs.Lengths.{text-after, by-named, right}
+use Rattle.text.proofs.Lengths.{text-after, by-names, right}
 
 -- one row or two in place of the top
 module _ (stack : List ℕ) (top : ℕ) where
@@ -103,8 +103,8 @@ module _ (message words : List ℕ) (used all room : ℕ) where
       inside = omega (arith, top-low .0, length-rows used words)
 
       -- by what the top row names
-      by-names : (P : List ℕ → Type 0) → P [] → ((a : ℕ) → a < top → P (a ∷ [])) → ((a b : ℕ) → a < top → b < top → P (a ∷ b ∷ [])) → P (named (rowAt rows top))
-      by-names = by-named message rows (m .sound) top inside
+      by-top : (P : List ℕ → Type 0) → P [] → ((a : ℕ) → a < top → P (a ∷ [])) → ((a b : ℕ) → a < top → b < top → P (a ∷ b ∷ [])) → P (named (rowAt rows top))
+      by-top = by-names message top (rowAt rows top) (judged message rows (m .sound) top inside .own)
 
       pub top-inside : depth - 1 < length stack
       top-inside = omega (arith, top-low .0, length-lastFirst stack (depth - 1), m .same)
@@ -121,7 +121,7 @@ module _ (message words : List ℕ) (used all room : ℕ) where
         pub named-fit : depth - 1 + length (named r) ≤ length stack
         named-fit =
             let n = length-lastFirst stack (depth - 1) in
-            rw (found, m .same) (by-names (λ js. depth - 1 + length js ≤ used) (omega (arith, top-low .0)) (λ a l. omega (arith, top-low .0)) (λ a b l g. omega (arith, top-low .0)))
+            rw (found, m .same) (by-top (λ js. depth - 1 + length js ≤ used) (omega (arith, top-low .0)) (λ a l. omega (arith, top-low .0)) (λ a b l g. omega (arith, top-low .0)))
 
         counted : toCount message words used stack depth ≡ ownLength r + (total (textOf message words used) (named r ++ below) + 1)
         unfolding total rowLength
@@ -138,7 +138,7 @@ module _ (message words : List ℕ) (used all room : ℕ) where
               fits = m .fits;
               same = k ∙ m .same;
               low = rw (put, found)
-                  (by-names (λ js. Low used (js ++ below))
+                  (by-top (λ js. Low used (js ++ below))
                   (top-low .1)
                   (λ a l. (omega (arith, top-low .0), top-low .1))
                   (λ a b l g. (omega (arith, top-low .0), (omega (arith, top-low .0), top-low .1))));
@@ -148,7 +148,7 @@ module _ (message words : List ℕ) (used all room : ℕ) where
             pub less : work (lastFirst stack′ depth′) < work (lastFirst stack depth)
             unfolding work
             less = rw (put, top-first, found)
-                (by-names (λ js. work (js ++ below) < 4 ^ top + work below)
+                (by-top (λ js. work (js ++ below) < 4 ^ top + work below)
                 (omega (arith, one-le-pow top 4 (omega arith)))
                 (λ a l. omega (arith, lower-weight a top l))
                 (λ a b l g. omega (arith, lower-weight a top l, lower-weight b top g)))

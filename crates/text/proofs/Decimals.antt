@@ -4,6 +4,7 @@ use Prim.Native.Char.{code}
 use mathlib.Core.Path.{_≡_, refl, sym, _∙_}
 use mathlib.Core.Bool.{Bool, true, false}
 use mathlib.Core.List.{List, [], _∷_, _++_}
+use native.Mathlib.Nat.{div-div-eq-div-mul}
 use native.Mathlib.Omega.{arith}
 use lib.ListN.{length, length-append}
 use lib.Dec.{ltb}
@@ -47,6 +48,15 @@ length-one n h = rw (natural-one n h)
 -- one digit more
 pub length-more : (n : ℕ) → 10 ≤ n → length (naturalOn n []) ≡ length (naturalOn (n / 10) []) + 1
 length-more n h = rw (natural-more n h) (length-append (naturalOn (n / 10) []) ((code "0" + n % 10) ∷ []))
+
+pub length-two : (n : ℕ) → 10 ≤ n → n < 100 → length (naturalOn n []) ≡ 2
+length-two n h k = omega (arith, length-more n h, length-one (n / 10) (omega arith))
+
+-- two digits more
+pub length-more-two : (n : ℕ) → 100 ≤ n → length (naturalOn n []) ≡ length (naturalOn (n / 100) []) + 2
+length-more-two n h =
+    let hundredth : n / 10 / 10 ≡ n / 100 = div-div-eq-div-mul n 10 10 in
+    omega (arith, length-more n (omega arith), rw hundredth at (length-more (n / 10) (omega arith)))
 
 -- the one digit stored, or the digits of the tenth and the last digit after them
 module _ (out : List ℕ) (at n : ℕ) {left : List ℕ} {next : ℕ} where

@@ -18,7 +18,7 @@ use Rattle.text.specs.Leaves.{isLeafKind, leafBytes, Inside}
 use Rattle.text.specs.Walk.{openBytes, firstNamed, pending, coming, Above, Falling, Room, Partly}
 use Rattle.text.proofs.Partly.{part-none, part-then, part-room, put-fits, part-put}
 use Rattle.text.proofs.Frames as F
-use Rattle.text.proofs.Frames.{above-inside, falling-below, row-bound, row-frame, leaf-inside}
+use Rattle.text.proofs.Frames.{above-inside, above-room, falling-below, row-bound, row-frame, leaf-inside}
 
 -- what stands before the first of the rows that a row names, by the row's kind
 module _ (output : List ℕ) (at : ℕ) (r : Row) where
@@ -100,6 +100,9 @@ module _ (message words stack₀ output₀ : List ℕ) (n₀ frames₀ end₀ : 
 
       pub first-earlier : firstNamed r < n
       first-earlier = rw (w .read) (inner .earlier)
+
+      pub first-room : firstNamed r < rowRoom words
+      first-room = omega (arith, first-earlier, above-room message words used (w .fits) n below (w .above))
 
       pub entered : (output′ : List ℕ) (n′ end′ : ℕ) (r′ : Row) → output′ ≡ sets output end (openBytes r) → (end′ ≡ end + length (openBytes r)) × (n′ ≡ firstNamed r) → r′ ≡ rowIn words n′
           → Entering (set stack frames n) output′ n′ r′ (frames + 1) end′

@@ -19,7 +19,7 @@ use Rattle.text.specs.Leaves.{isLeafKind, leafBytes, Inside}
 use Rattle.text.specs.Walk.{frameRow, frameOn, pending, coming, comingFields, of-field, Above, Room, placeAfter, comingAfter, ReadyAfter, Partly}
 use Rattle.text.proofs.Partly.{part-none, part-then, part-room, put-fits, part-put}
 use Rattle.text.proofs.Frames as F
-use Rattle.text.proofs.Frames.{above-inside, above-lower, falling-below, row-bound, row-frame, leaf-inside, field-names, field-rest, more-fields, no-fields, field-frame}
+use Rattle.text.proofs.Frames.{above-inside, above-room, above-lower, falling-below, row-bound, row-frame, leaf-inside, field-names, field-rest, more-fields, no-fields, field-frame}
 
 -- what a turn of the frame at `top` leaves, after which the answer is a
 module _ (message words : List ℕ) (used top : ℕ) (output₀ : List ℕ) (end₀ : ℕ) (text₀ : List ℕ) where
@@ -74,65 +74,69 @@ module _ (message words stack₀ output₀ : List ℕ) (top n₀ end₀ : ℕ) w
     abbrev row : Row
     row = rowAt (rowsOf used words) n
 
-    -- a field, which has the words f
-    module _ (k : r .kind ≡ fieldKind) (f : Row) (g : f ≡ rowIn words (r .first)) where
+    -- a field, and the rows that it names
+    module _ (k : r .kind ≡ fieldKind) where
       is-field : row .kind ≡ fieldKind
       is-field = rw (w .read) at k
 
-      earlier : (r .first < n) × (r .second < n)
+      pub earlier : (r .first < n) × (r .second < n)
       earlier = rw (w .read) (field-names message words used (w .fits) (w .sound) n inside is-field)
 
       first-inside : r .first < used
       first-inside = omega (arith, earlier .0, inside)
 
-      read : f ≡ rowAt (rowsOf used words) (r .first)
-      read = g ∙ row-of words used (r .first) (w .fits) first-inside
+      pub names-room : (r .first < rowRoom words) × (r .second < rowRoom words)
+      names-room =
+          let own : n < rowRoom words = above-room message words used (w .fits) n below (w .above) in
+          (omega (arith, earlier .0), omega (arith, earlier .1))
 
-      text : comingFields message words used n below ≡ textOn (termAt message (rowsOf used words) (r .first)) (comingFields message words used (r .second) below)
-      text = rw (w .read) (more-fields message words used (w .fits) (w .sound) n inside (code "}" ∷ pending message words used below) is-field)
+      -- the first of them has the words f
+      module _ (f : Row) (g : f ≡ rowIn words (r .first)) where
+        read : f ≡ rowAt (rowsOf used words) (r .first)
+        read = g ∙ row-of words used (r .first) (w .fits) first-inside
 
-      -- it is no leaf: it comes next, above the frame of its row
-      pub into : top < used → Turned message words used top output₀ end₀ text₀ (Into (record { 0 = r .first }) end) (set stack top n) output
-      unfolding ReadyAfter placeAfter comingAfter pending
-      into h =
-          let self : frameRow n ≡ n = row-frame n (row-bound message words used (w .fits) (w .sound) n inside) in
-          let top-is : getD (set stack top n) top 0 ≡ n = getD-set-same stack top n 0 (rw (w .same) h) in
-          let below-is : lastFirst (set stack top n) top ≡ below = kept stack top top n (omega arith) ∙ ap (λ (s : List ℕ). lastFirst s top) (w .same) in
-          let frame : frameOn message words used n (pending message words used below) ≡ comingFields message words used (r .second) below
-          = rw (w .read) (field-frame message words used (w .fits) (w .sound) n inside (pending message words used below) n self is-field) in
-          let ahead : coming message words used (r .first) (n ∷ below) ≡ comingFields message words used n below = ap (textOn (termAt message (rowsOf used words) (r .first))) frame ∙ sym text in
-          rw (top-is, below-is) (rw self (earlier .0, (of-field (rw (self, is-field)), w .above)), rw ahead (w .part))
+        text : comingFields message words used n below ≡ textOn (termAt message (rowsOf used words) (r .first)) (comingFields message words used (r .second) below)
+        text = rw (w .read) (more-fields message words used (w .fits) (w .sound) n inside (code "}" ∷ pending message words used below) is-field)
 
-      -- it is a leaf
-      module _ (leaf : isLeafKind (f .kind) ≡ true) where
-        own : F.Leaf message words used (w .fits) (w .sound) (r .first) first-inside (comingFields message words used (r .second) below)
-        own = F.text message words used (w .fits) (w .sound) (r .first) first-inside (comingFields message words used (r .second) below) .0 (rw read at leaf)
+        -- it is no leaf: it comes next, above the frame of its row
+        pub into : top < used → Turned message words used top output₀ end₀ text₀ (Into (record { 0 = r .first }) end) (set stack top n) output
+        unfolding ReadyAfter placeAfter comingAfter pending
+        into h =
+            let self : frameRow n ≡ n = row-frame n (row-bound message words used (w .fits) (w .sound) n inside) in
+            let top-is : getD (set stack top n) top 0 ≡ n = getD-set-same stack top n 0 (rw (w .same) h) in
+            let below-is : lastFirst (set stack top n) top ≡ below = kept stack top top n (omega arith) ∙ ap (λ (s : List ℕ). lastFirst s top) (w .same) in
+            let frame : frameOn message words used n (pending message words used below) ≡ comingFields message words used (r .second) below
+            = rw (w .read) (field-frame message words used (w .fits) (w .sound) n inside (pending message words used below) n self is-field) in
+            let ahead : coming message words used (r .first) (n ∷ below) ≡ comingFields message words used n below = ap (textOn (termAt message (rowsOf used words) (r .first))) frame ∙ sym text in
+            rw (top-is, below-is) (rw self (earlier .0, (of-field (rw (self, is-field)), w .above)), rw ahead (w .part))
 
-        leaf-text : comingFields message words used n below ≡ leafBytes message f ++ comingFields message words used (r .second) below
-        leaf-text = text ∙ rw read (own .text)
+        -- it is a leaf
+        module _ (leaf : isLeafKind (f .kind) ≡ true) where
+          own : F.Leaf message words used (w .fits) (w .sound) (r .first) first-inside (comingFields message words used (r .second) below)
+          own = F.text message words used (w .fits) (w .sound) (r .first) first-inside (comingFields message words used (r .second) below) .0 (rw read at leaf)
 
-        pub leaf-fits : Inside message f × (end + length (leafBytes message f) ≤ length output)
-        leaf-fits = (rw read (leaf-inside message words used (w .fits) (w .sound) (r .first) first-inside), put-fits output end _ (leafBytes message f) _ leaf-text (w .room))
+          leaf-text : comingFields message words used n below ≡ leafBytes message f ++ comingFields message words used (r .second) below
+          leaf-text = text ∙ rw read (own .text)
 
-        pub next : (output′ : List ℕ) (end′ : ℕ) (r′ : Row) → (output′ ≡ sets output end (leafBytes message f)) × (end′ ≡ end + length (leafBytes message f)) → r′ ≡ rowIn words (r .second)
-            → Fielding stack output′ (r .second) r′ end′
-        next output′ end′ r′ s read′ =
-            let length-kept : length output′ ≡ length output = rw (s .0) (length-sets output end (leafBytes message f)) in
-            let put = part-put output end _ (leafBytes message f) _ leaf-text s in
-            record {
-              fits = w .fits;
-              sound = w .sound;
-              same = w .same;
-              same-output = length-kept ∙ w .same-output;
-              room = part-room output end _ put length-kept (w .room);
-              read = read′ ∙ row-of words used (r .second) (w .fits) (omega (arith, earlier .1, inside));
-              tuple = rw (w .read) (field-rest message words used (w .fits) (w .sound) n inside is-field);
-              above = above-lower message words used (r .second) n below (earlier .1) (w .above);
-              part = part-then output₀ end₀ text₀ (w .part) put;
-            }
+          pub leaf-fits : Inside message f × (end + length (leafBytes message f) ≤ length output)
+          leaf-fits = (rw read (leaf-inside message words used (w .fits) (w .sound) (r .first) first-inside), put-fits output end _ (leafBytes message f) _ leaf-text (w .room))
 
-        pub second-earlier : r .second < n
-        second-earlier = earlier .1
+          pub next : (output′ : List ℕ) (end′ : ℕ) (r′ : Row) → (output′ ≡ sets output end (leafBytes message f)) × (end′ ≡ end + length (leafBytes message f)) → r′ ≡ rowIn words (r .second)
+              → Fielding stack output′ (r .second) r′ end′
+          next output′ end′ r′ s read′ =
+              let length-kept : length output′ ≡ length output = rw (s .0) (length-sets output end (leafBytes message f)) in
+              let put = part-put output end _ (leafBytes message f) _ leaf-text s in
+              record {
+                fits = w .fits;
+                sound = w .sound;
+                same = w .same;
+                same-output = length-kept ∙ w .same-output;
+                room = part-room output end _ put length-kept (w .room);
+                read = read′ ∙ row-of words used (r .second) (w .fits) (omega (arith, earlier .1, inside));
+                tuple = rw (w .read) (field-rest message words used (w .fits) (w .sound) n inside is-field);
+                above = above-lower message words used (r .second) n below (earlier .1) (w .above);
+                part = part-then output₀ end₀ text₀ (w .part) put;
+              }
 
     -- no field is left
     module _ (k : r .kind ≡ fieldKind → ⊥) where

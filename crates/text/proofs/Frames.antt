@@ -16,12 +16,12 @@ use Rattle.format.specs.Text.{naturalOn, decimalOn, between, textOn, itemsOn, f
 use Rattle.format.specs.Rows.{Row, rowAt, rowRoom, rowsOf, spanOf, fieldsOf, termAt, isListKind, isTupleKind, binaryKind, consKind, endKind, fieldKind, tagKind, integerOfRow}
 use Rattle.format.specs.Sound.{soundRow, soundRest, soundRows}
 use Rattle.format.proofs.Lists.{length-span}
-use Rattle.format.proofs.Sizes.{between-onto, text-onto}
+use Rattle.format.proofs.Sizes.{natural-onto, between-onto, text-onto}
 use Rattle.format.proofs.TableRows as R
 use Rattle.format.proofs.TableRows.{length-rows, judged}
 use Rattle.text.proofs.Leaves.{length-after}
 use Rattle.text.proofs.Lengths.{list-again}
-use Rattle.text.specs.Leaves.{isLeafKind, leafBytes, binaryBytes, Inside}
+use Rattle.text.specs.Leaves.{isLeafKind, isSpanKind, quoteOf, countBytes, spanBytes, leafBytes, Inside}
 use Rattle.text.specs.Walk.{openBytes, firstNamed, frameRow, frameOn, Frame, of-cell, of-field, of-tag, Above, Falling}
 
 -- no number's text is empty, whatever follows it
@@ -51,6 +51,10 @@ module _ (message words : List ℕ) (used : ℕ) where
   pub above-inside : (i : ℕ) (frames : List ℕ) → Above message words used i frames → i + length frames < used
   above-inside i [] h = omega arith
   above-inside i (e ∷ frames) h = omega (arith, h .0, above-inside (frameRow e) frames (h .1 .1))
+
+  -- the table has room for the row, as for each row used
+  pub above-room : used ≤ rowRoom words → (i : ℕ) (frames : List ℕ) → Above message words used i frames → i < rowRoom words
+  above-room fits i frames h = omega (arith, above-inside i frames h)
 
   pub above-lower : (c i : ℕ) (frames : List ℕ) → c < i → Above message words used i frames → Above message words used c frames
   above-lower c i [] l h = omega arith
@@ -185,12 +189,12 @@ module _ (message words : List ℕ) (used : ℕ) where
       inner k x = (λ h. absurd (differ (sym h ∙ k)), λ h. x)
 
       pub text : Text
-      unfolding isLeafKind leafBytes binaryBytes openBytes firstNamed textOn
+      unfolding isLeafKind isSpanKind quoteOf countBytes spanBytes leafBytes openBytes firstNamed textOn
       text =
           let at : i < rowBound = row-bound i l in
           let self : frameRow i ≡ i = row-frame i at in
-          let counted : (k : r′ .kind ≡ binaryKind) → binaryBytes message (r′ .first) (r′ .second) ≡ textOn (T.binary span) []
-          = λ k. ap (λ (n : ℕ). naturalOn n (between (code "~") span [])) (sym (length-span message (r′ .first) (r′ .second) (R.binary-inside message i r′ (own i l) k))) in
+          let counted : (k : r′ .kind ≡ binaryKind) → naturalOn (r′ .second) [] ++ between (code "~") span [] ≡ textOn (T.binary span) []
+          = λ k. rw (length-span message (r′ .first) (r′ .second) (R.binary-inside message i r′ (own i l) k)) (sym (natural-onto (r′ .second) [] (between (code "~") span []))) in
           R.by-kind message i r′ (own i l)
           (λ k. leaf _ (R.integer-term message rows i (inside i l) k) (rw k) (rw k) (integer-some (integerOfRow r′)))
           (λ k. leaf _ (R.atom-term message rows i (inside i l) k) (rw k) (rw k) (omega arith))

@@ -9,7 +9,7 @@ use lib.ListN.{length, set, getD}
 use lib.Seq.{sets, length-sets, getD-set-same}
 use Rattle.format.specs.Bound.{rowBound}
 use Rattle.format.specs.Text.{textOn}
-use Rattle.format.specs.Rows.{Row, rowAt, rowsOf, termAt, consKind}
+use Rattle.format.specs.Rows.{Row, rowAt, rowsOf, rowRoom, termAt, consKind}
 use Rattle.table.specs.Words.{lastFirst, rowIn}
 use Rattle.table.proofs.Rows.{row-of, kept}
 use Rattle.text.specs.declared.walk.After.the-variants.{Into, Done}
@@ -17,7 +17,7 @@ use Rattle.text.specs.Leaves.{isLeafKind, leafBytes, Inside}
 use Rattle.text.specs.Walk.{frameRow, frameOn, pending, coming, of-cell, Falling, Room, placeAfter, comingAfter, ReadyAfter}
 use Rattle.text.proofs.Partly.{part-none, part-then, part-room, put-fits, part-put}
 use Rattle.text.proofs.Frames as F
-use Rattle.text.proofs.Frames.{above-inside, falling-below, row-frame, begun-frame, leaf-inside, cell-names, item-frame, begun-item-frame}
+use Rattle.text.proofs.Frames.{above-inside, above-room, falling-below, row-frame, begun-frame, leaf-inside, cell-names, item-frame, begun-item-frame}
 use Rattle.text.proofs.Fields.{Turned}
 
 -- the frame e at `top` of the stack is that of a list cell with this item
@@ -56,6 +56,15 @@ module _ (message words stack output : List ℕ) (top at item : ℕ) where
     is-item : row .first ≡ item
     is-item = rw found at (cell .1)
 
+    earlier : item < i
+    earlier = rw is-item at (cell-names message words used (room .fits) (room .sound) i inside is-cell .0)
+
+    item-inside : item < used
+    item-inside = omega (arith, earlier, inside)
+
+    pub item-room : item < rowRoom words
+    item-room = omega (arith, earlier, above-room message words used (room .fits) i below (falls .1))
+
     -- its item is begun, and now done
     module _ (h : rowBound ≤ e) where
       last : text₀ ≡ (code "&" ∷ []) ++ more
@@ -71,12 +80,6 @@ module _ (message words stack output : List ℕ) (top at item : ℕ) where
 
     -- its item is still to come, and has the words f
     module _ (h : e < rowBound) (f : Row) (g : f ≡ rowIn words item) where
-      earlier : item < i
-      earlier = rw is-item at (cell-names message words used (room .fits) (room .sound) i inside is-cell .0)
-
-      item-inside : item < used
-      item-inside = omega (arith, earlier, inside)
-
       read : f ≡ rowAt (rowsOf used words) item
       read = g ∙ row-of words used item (room .fits) item-inside
 

@@ -1,22 +1,23 @@
 -- The text of each kind of leaf: how it is stored part by part, and how many bytes it has.
 use Prim.Native.Nat.{ℕ, _+_, _*_, _-_, _^_, _≤_, _<_}
 use Prim.Native.Char.{code}
-use mathlib.Core.Path.{_≡_, ap, _∙_}
+use mathlib.Core.Path.{_≡_, sym, ap, _∙_}
+use mathlib.Core.Logic.{_⊎_, inl, inr, ⊎-elim}
 use mathlib.Core.Bool.{Bool, true, false}
 use mathlib.Core.List.{List, [], _∷_, _++_}
+use native.Mathlib.Nat.{eq-or-lt-of-le}
 use native.Mathlib.Omega.{arith}
 use lib.ListN.{length, length-append}
 use lib.Seq.{sets}
 use lib.Dec.{eqb}
-use borrow.Author.Tests.{lt-ltb, le-ltb}
+use borrow.Author.Tests.{lt-ltb, le-ltb, ne-eqb}
 use Rattle.format.specs.Bits.{fromBits}
 use Rattle.format.specs.Term as T
 use Rattle.format.specs.Text.{naturalOn, decimalOn, between, textOn}
 use Rattle.format.specs.Rows.{Row, spanOf, integerKind, atomKind, stringKind, binaryKind, nilKind, integerOfRow}
 use Rattle.format.proofs.Lists.{length-span}
 use Rattle.format.proofs.Sizes.{natural-onto}
-use Rattle.format.proofs.Tests.{None, is-none}
-use Rattle.text.specs.Leaves.{integerBytes, binaryBytes, emptyTuple, leafBytes}
+use Rattle.text.specs.Leaves.{integerBytes, quoteOf, countBytes, spanBytes, isSpanKind, emptyTuple, leafBytes, Inside}
 use Rattle.text.proofs.Stores.{Stored, stored-both}
 
 -- a count in front of a rest, and bytes between two quotes
@@ -64,17 +65,13 @@ module _ (out : List ℕ) (at n : ℕ) {left : List ℕ} {next : ℕ} where
   unfolding integerBytes
   stored-negative e a b = rw e (stored-both out at (code "-" ∷ []) (naturalOn n (code " " ∷ [])) a b)
 
--- a span between two quotes, and a binary
+-- a span between two quotes
 module _ (message : List ℕ) (start n : ℕ) where
   abbrev span : List ℕ
   span = spanOf message start n
 
   pub length-quoted : (quote : ℕ) → start + n ≤ length message → length (between quote span []) ≡ n + 2
   length-quoted quote h = omega (arith, length-between quote span, length-span message start n h)
-
-  pub length-binary : length (binaryBytes message start n) ≡ length (naturalOn n []) + length (between (code "~") span [])
-  unfolding binaryBytes
-  length-binary = length-after n (between (code "~") span [])
 
   module _ (out : List ℕ) (at : ℕ) {left : List ℕ} {next : ℕ} where
     pub stored-quoted : (quote : ℕ) → start + n ≤ length message → {first second : List ℕ} {inner end : ℕ}
@@ -84,10 +81,29 @@ module _ (message : List ℕ) (start n : ℕ) where
         let rest = stored-both first inner span (quote ∷ []) (b .0, omega (arith, b .1, length-span message start n h)) c in
         stored-both out at (quote ∷ []) (span ++ (quote ∷ [])) a rest
 
-    pub stored-binary : {first : List ℕ} {tilde : ℕ} → Stored out at (naturalOn n []) first tilde → Stored first tilde (between (code "~") span []) left next
-        → Stored out at (binaryBytes message start n) left next
-    unfolding binaryBytes
-    stored-binary a b = rw (natural-onto n [] (between (code "~") span [])) (stored-both out at (naturalOn n []) (between (code "~") span []) a b)
+-- the count of a binary, and none of another kind
+module _ {k : ℕ} (n : ℕ) where
+  pub counted : k ≡ binaryKind → countBytes k n ≡ naturalOn n []
+  unfolding countBytes
+  counted e = rw e
+
+  pub not-counted : (k ≡ binaryKind → ⊥) → countBytes k n ≡ []
+  unfolding countBytes
+  not-counted e = rw (ne-eqb k binaryKind e)
+
+-- an atom, a string or a binary: the count where it is a binary, and the span between its quotes
+module _ (message : List ℕ) (k start n : ℕ) {quote : ℕ} (e : quote ≡ quoteOf k) where
+  abbrev quoted : List ℕ
+  quoted = between quote (spanOf message start n) []
+
+  pub length-bytes : length (spanBytes message k start n) ≡ length (countBytes k n) + length quoted
+  unfolding spanBytes
+  length-bytes = rw e (length-append (countBytes k n) (between (quoteOf k) (spanOf message start n) []))
+
+  pub stored-bytes : (out : List ℕ) (at : ℕ) {left : List ℕ} {next : ℕ} {first : List ℕ} {inner : ℕ} → Stored out at (countBytes k n) first inner → Stored first inner quoted left next
+      → Stored out at (spanBytes message k start n) left next
+  unfolding spanBytes
+  stored-bytes out at a b = stored-both out at (countBytes k n) (between (quoteOf k) (spanOf message start n) []) a (rw e at b)
 
 -- a leaf's bytes, written out: there is room for them, and they are stored
 module _ {leaf bytes : List ℕ} (e : leaf ≡ bytes) (at : ℕ) where
@@ -97,31 +113,35 @@ module _ {leaf bytes : List ℕ} (e : leaf ≡ bytes) (at : ℕ) where
   pub stored-as : (out : List ℕ) {left : List ℕ} {next : ℕ} → Stored out at bytes left next → Stored out at leaf left next
   stored-as out s = rw e s
 
+-- the kinds whose text is a span, by their numbers
+abbrev pub SpanKind : ℕ → Type 0
+SpanKind k = (k ≡ atomKind) ⊎ ((k ≡ stringKind) ⊎ (k ≡ binaryKind))
+
+pub span-kind : (k : ℕ) → atomKind ≤ k → k ≤ binaryKind → SpanKind k
+span-kind k l u = ⊎-elim (λ e. inl (sym e)) (λ m. inr (⊎-elim (λ e. inl (sym e)) (λ n. inr (omega arith)) (eq-or-lt-of-le m))) (eq-or-lt-of-le l)
+
 -- a leaf by its kind
 module _ (message : List ℕ) (r : Row) where
   pub integer-leaf : r .kind ≡ integerKind → leafBytes message r ≡ textOn (T.int (integerOfRow r)) []
   unfolding leafBytes
   integer-leaf k = rw k
 
-  pub atom-leaf : r .kind ≡ atomKind → leafBytes message r ≡ between (code "'") (spanOf message (r .first) (r .second)) []
-  unfolding leafBytes
-  atom-leaf k = rw k
+  -- an atom, a string or a binary
+  pub span-leaf : SpanKind (r .kind) → leafBytes message r ≡ spanBytes message (r .kind) (r .first) (r .second)
+  unfolding leafBytes isSpanKind
+  span-leaf k = ⊎-elim (λ e. rw e) (⊎-elim (λ e. rw e) (λ e. rw e)) k
 
-  pub string-leaf : r .kind ≡ stringKind → leafBytes message r ≡ between (code "\"") (spanOf message (r .first) (r .second)) []
-  unfolding leafBytes
-  string-leaf k = rw k
-
-  pub binary-leaf : r .kind ≡ binaryKind → leafBytes message r ≡ binaryBytes message (r .first) (r .second)
-  unfolding leafBytes
-  binary-leaf k = rw k
+  pub span-inside : SpanKind (r .kind) → Inside message r → r .first + r .second ≤ length message
+  unfolding Inside
+  span-inside k h = ⊎-elim (h .0) (⊎-elim (h .1 .0) (h .1 .1)) k
 
   pub nil-leaf : r .kind ≡ nilKind → leafBytes message r ≡ code "#" ∷ []
-  unfolding leafBytes
+  unfolding leafBytes isSpanKind
   nil-leaf k = rw k
 
-  -- the only kind left
-  pub end-leaf : None 1 5 (r .kind) → leafBytes message r ≡ emptyTuple
-  unfolding leafBytes
+  -- any other kind
+  pub end-leaf : (r .kind < integerKind) ⊎ (nilKind < r .kind) → leafBytes message r ≡ emptyTuple
+  unfolding leafBytes isSpanKind
   end-leaf h =
-      let no : (j : ℕ) → 1 ≤ j → j < 6 → eqb (r .kind) j ≡ false = is-none 1 5 (r .kind) h in
+      let no : (j : ℕ) → integerKind ≤ j → j ≤ nilKind → eqb (r .kind) j ≡ false = λ j l u. ne-eqb (r .kind) j (λ e. ⊎-elim (λ x. omega arith) (λ x. omega arith) h) in
       rw (no 1 (omega arith) (omega arith), no 2 (omega arith) (omega arith), no 3 (omega arith) (omega arith), no 4 (omega arith) (omega arith), no 5 (omega arith) (omega arith))

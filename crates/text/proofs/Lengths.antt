@@ -1,7 +1,7 @@
 -- The lengths of rows' texts: each from those of earlier rows, and whether the root's has room.
 use Prim.Native.Nat.{ℕ, _+_, _≤_, _<_}
 use Prim.Native.Char.{code}
-use mathlib.Core.Path.{_≡_, refl, ap, sym, _∙_}
+use mathlib.Core.Path.{_≡_, refl, ap, sym, subst, _∙_}
 use mathlib.Core.Bool.{Bool, true, false, _||_}
 use mathlib.Core.List.{List, [], _∷_, _++_}
 use native.Mathlib.Omega.{arith}
@@ -23,7 +23,8 @@ use Rattle.format.proofs.TableRows as R
 use Rattle.format.proofs.TableRows.{length-rows, judged}
 use Rattle.table.specs.Words.{rowIn}
 use Rattle.table.proofs.Rows.{row-of}
-use Rattle.text.specs.Lengths.{textLength, named, below, ownLength, total, rowLength, longest, capped, lengthIn}
+use Rattle.table.proofs.Judged as J
+use Rattle.text.specs.Lengths.{textLength, named, below, ownLength, total, rowLength, longest, capped, lengthIn, Measured}
 use Rattle.text.proofs.Leaves.{length-after, length-between, length-quoted}
 
 -- a tag is none of the others
@@ -134,9 +135,22 @@ tagged-length : (b : List ℕ) (t : Term) → textLength (T.tag b t) ≡ textLen
 unfolding textOn
 tagged-length b t = omega (arith, text-after t (between (code "`") b []), length-between (code "`") b)
 
--- the rows before row i have their lengths in their words
-abbrev pub Measured : List ℕ → List Row → List ℕ → ℕ → Type 0
-Measured message rows lengths i = (j : ℕ) → j < i → getD lengths j 0 ≡ capped (textLength (termAt message rows j))
+-- a sound row names no row, one or two, all of them earlier
+pub by-names : (message : List ℕ) (i : ℕ) (r : Row) → T (soundRow message i r) → (P : List ℕ → Type 0)
+    → P [] → ((a : ℕ) → a < i → P (a ∷ [])) → ((a b : ℕ) → a < i → b < i → P (a ∷ b ∷ [])) → P (named r)
+unfolding named
+by-names message i r s P none one two =
+    let both : (r .first < i) × (r .second < i) → P (r .first ∷ r .second ∷ []) = λ e. two (r .first) (r .second) (e .0) (e .1) in
+    R.by-kind message i r s
+    (λ k. rw k none)
+    (λ k. rw k none)
+    (λ k. rw k none)
+    (λ k. rw k none)
+    (λ k. rw k none)
+    (λ k. rw k (both (R.cons-earlier message i r s k)))
+    (λ k. rw k none)
+    (λ k. rw k (both (R.field-earlier message i r s k)))
+    (λ k. rw k (one (r .third) (R.tag-inner message i r s k)))
 
 module _ (message : List ℕ) (rows : List Row) (sound : T (soundRows message rows)) where
   abbrev term : ℕ → Term
@@ -175,22 +189,6 @@ module _ (message : List ℕ) (rows : List Row) (sound : T (soundRows message ro
 
     t : T (soundRest (r .kind) (rowAt rows (r .second) .kind))
     t = judged message rows sound i l .rest
-
-    -- it names no row, one or two, all of them earlier
-    pub by-named : (P : List ℕ → Type 0) → P [] → ((a : ℕ) → a < i → P (a ∷ [])) → ((a b : ℕ) → a < i → b < i → P (a ∷ b ∷ [])) → P (named r)
-    unfolding named
-    by-named P none one two =
-        let both : (r .first < i) × (r .second < i) → P (r .first ∷ r .second ∷ []) = λ e. two (r .first) (r .second) (e .0) (e .1) in
-        R.by-kind message i r s
-        (λ k. rw k none)
-        (λ k. rw k none)
-        (λ k. rw k none)
-        (λ k. rw k none)
-        (λ k. rw k none)
-        (λ k. rw k (both (R.cons-earlier message i r s k)))
-        (λ k. rw k none)
-        (λ k. rw k (both (R.field-earlier message i r s k)))
-        (λ k. rw k (one (r .third) (R.tag-inner message i r s k)))
 
     abbrev Right : Type 0
     Right = textLength (term i) ≡ rowLength (λ j. textLength (term j)) r
@@ -246,46 +244,77 @@ module _ (message : List ℕ) (rows : List Row) (sound : T (soundRows message ro
     pub capped-right : (lengths : List ℕ) → Measured message rows lengths i → capped (rowLength (lengthIn lengths) r) ≡ capped (textLength (term i))
     unfolding rowLength total capped
     capped-right lengths m = rw right
-        (by-named (λ js. capped (total (lengthIn lengths) js + ownLength r) ≡ capped (total (λ j. textLength (term j)) js + ownLength r))
+        (by-names message i r s (λ js. capped (total (lengthIn lengths) js + ownLength r) ≡ capped (total (λ j. textLength (term j)) js + ownLength r))
         refl
         (λ a h. rw (m a h) (omega arith))
         (λ a b h g. rw (m a h, m b g) (omega arith)))
 
 -- words: the table; the lengths have a word for each row used
 module _ (message words : List ℕ) (used : ℕ) where
-  -- the rows before row i are measured
+  abbrev rows′ : List Row
+  rows′ = rowsOf used words
+
+  -- the rows before row i are judged, and measured where all rows are sound
   pub record Measuring (lengths : List ℕ) (i : ℕ) : Type 0 where
     pub fits : used ≤ rowRoom words
-    pub sound : T (soundRows message (rowsOf used words))
     pub same : length lengths ≡ used
-    pub measured : Measured message (rowsOf used words) lengths i
+    pub judged-to : J.from message words used i ≡ soundRows message rows′
+    pub measured : T (soundRows message rows′) → Measured message rows′ lengths i
+
+  pub begins : used ≤ rowRoom words → (lengths : List ℕ) → length lengths ≡ used → Measuring lengths 0
+  begins f lengths e = record { fits = f; same = e; judged-to = J.begins message words used; measured = λ s j h. absurd (omega arith) }
+
+  -- what is promised of an answer and the lengths left
+  abbrev Judged : Bool → List ℕ → Type 0
+  Judged answer lengths = (answer ≡ soundRows message rows′) × (T (soundRows message rows′) → Measured message rows′ lengths used)
+
+  unsound : (lengths : List ℕ) → false ≡ soundRows message rows′ → Judged false lengths
+  unsound lengths e = (e, λ s j l. absurd (subst T (sym e) s))
 
   module _ (lengths : List ℕ) (i : ℕ) (m : Measuring lengths i) where
     pub row-number : i < length lengths → i < rowBound
     unfolding rowRoom
     row-number h = omega (arith, m .fits, m .same)
 
-    -- the rows that row i names have words
-    pub names-before : i < length lengths → {r : Row} → r ≡ rowIn words i → below (length lengths) (named r)
-    names-before h read =
-        let row = read ∙ row-of words used i (m .fits) (omega (arith, m .same)) in
-        rw row (by-named message (rowsOf used words) (m .sound) i (omega (arith, m .same, length-rows used words)) (below (length lengths)) tt (λ a p. (omega arith, tt)) (λ a b p q. (omega arith, (omega arith, tt))))
+    pub all-judged : length lengths ≤ i → Judged true lengths
+    all-judged h = (sym (J.ends message words used i (omega (arith, m .same))) ∙ m .judged-to, λ s j l. m .measured s j (omega (arith, m .same)))
 
-    pub next-row : i < length lengths → {r : Row} {n word : ℕ} → r ≡ rowIn words i → n ≡ rowLength (lengthIn lengths) r → word ≡ capped n → Measuring (set lengths i word) (i + 1)
-    next-row h {r} {n} {word} read e w = record {
-      fits = m .fits;
-      sound = m .sound;
-      same = length-set lengths i word ∙ m .same;
-      measured = λ j l. either j i (λ q. rw q (getD-set-same lengths i word 0 h ∙ own)) (λ q. getD-set-other lengths i j word 0 (λ x. omega (arith, eqb-false j i q)) ∙ m .measured j (omega (arith, eqb-false j i q)));
-    }
-      where
-        own : word ≡ capped (textLength (termAt message (rowsOf used words) i))
-        own =
-            let row = read ∙ row-of words used i (m .fits) (omega (arith, m .same)) in
-            w ∙ ap capped e ∙ rw row (capped-right message (rowsOf used words) (m .sound) i (omega (arith, m .same, length-rows used words)) lengths (m .measured))
+    -- row i
+    module _ (h : i < length lengths) {r : Row} (read : r ≡ rowIn words i) where
+      row′ : r ≡ rowAt rows′ i
+      row′ = read ∙ row-of words used i (m .fits) (omega (arith, m .same))
 
-    pub all-measured : length lengths ≤ i → Measured message (rowsOf used words) lengths used
-    all-measured h j l = m .measured j (omega (arith, m .same))
+      within : i < used
+      within = omega (arith, m .same)
+
+      pub row-fails : soundRow message i r ≡ false → Judged false lengths
+      row-fails e = unsound lengths (sym (J.row-fails message words used (m .fits) i within r read e) ∙ m .judged-to)
+
+      module _ (own : soundRow message i r ≡ true) where
+        sound-row : T (soundRow message i r)
+        sound-row = subst T (sym own) tt
+
+        -- the rows that it names have words
+        pub names-before : below (length lengths) (named r)
+        names-before = by-names message i r sound-row (below (length lengths)) tt (λ a p. (omega arith, tt)) (λ a b p q. (omega arith, (omega arith, tt)))
+
+        -- its rest is a row before
+        pub rest-room : (r .kind ≡ consKind → r .second < rowRoom words) × (r .kind ≡ fieldKind → r .second < rowRoom words)
+        rest-room = (J.cons-room message words used (m .fits) i within r read own, J.field-room message words used (m .fits) i within r read own)
+
+        pub rest-fails : soundRest (r .kind) (rowIn words (r .second) .kind) ≡ false → Judged false lengths
+        rest-fails e = unsound lengths (sym (J.rest-fails message words used (m .fits) i within r read own e) ∙ m .judged-to)
+
+        pub next-row : soundRest (r .kind) (rowIn words (r .second) .kind) ≡ true → {n word : ℕ} → n ≡ rowLength (lengthIn lengths) r → word ≡ capped n → Measuring (set lengths i word) (i + 1)
+        next-row rest {n} {word} e w = record {
+          fits = m .fits;
+          same = length-set lengths i word ∙ m .same;
+          judged-to = sym (J.passes message words used (m .fits) i within r read own rest) ∙ m .judged-to;
+          measured = λ s j l. either j i (λ q. rw q (getD-set-same lengths i word 0 h ∙ its-own s)) (λ q. getD-set-other lengths i j word 0 (λ x. omega (arith, eqb-false j i q)) ∙ m .measured s j (omega (arith, eqb-false j i q)));
+        }
+          where
+            its-own : T (soundRows message rows′) → word ≡ capped (textLength (termAt message rows′ i))
+            its-own s = w ∙ ap capped e ∙ rw row′ (capped-right message rows′ s i (omega (arith, m .same, length-rows used words)) lengths (m .measured s))
 
 -- whether a plain text has room, by the length of its text in a word
 module _ (t : Term) (room n : ℕ) (e : n ≡ capped (textLength t)) where

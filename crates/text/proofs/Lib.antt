@@ -4,7 +4,7 @@
 pub mod Stores
 -- digits one by one
 pub mod Decimals
--- the bytes of a span one by one
+-- bytes copied part by part, and those of a span
 pub mod Spans
 -- the texts of leaves
 pub mod Leaves

@@ -3,7 +3,7 @@ use Prim.Native.Nat.{ℕ, _+_, _≤_}
 use Prim.Native.Char.{code}
 use mathlib.Core.Path.{_≡_}
 use mathlib.Core.Bool.{Bool, true, false, _||_, cond}
-use mathlib.Core.List.{List, [], _∷_}
+use mathlib.Core.List.{List, [], _∷_, _++_}
 use lib.Dec.{eqb, leb}
 use lib.ListN.{length}
 use Rattle.format.specs.Term as T
@@ -19,22 +19,32 @@ integerBytes true n = code "-" ∷ naturalOn n (code " " ∷ [])
 unfoldable pub isLeafKind : ℕ → Bool
 isLeafKind k = leb k nilKind || eqb k endKind
 
--- a binary of n bytes from `start` on: its count, `~`, its bytes, `~`
-unfoldable pub binaryBytes : List ℕ → ℕ → ℕ → List ℕ
-binaryBytes message start n = naturalOn n (between (code "~") (spanOf message start n) [])
+-- the kinds whose text is a span of the message: atom, string and binary
+unfoldable pub isSpanKind : ℕ → Bool
+isSpanKind k = eqb k atomKind || (eqb k stringKind || eqb k binaryKind)
+
+-- what stands before and after the bytes of an atom, a string or a binary, by the kind
+unfoldable pub quoteOf : ℕ → ℕ
+quoteOf k = cond (eqb k atomKind) (code "'") (cond (eqb k stringKind) (code "\"") (code "~"))
+
+-- what stands before that: of a binary its count, of an atom and a string nothing
+unfoldable pub countBytes : ℕ → ℕ → List ℕ
+countBytes k n = cond (eqb k binaryKind) (naturalOn n []) []
+
+-- an atom, a string or a binary of n bytes from `start` on; its bytes are as spelled in the message
+unfoldable pub spanBytes : List ℕ → ℕ → ℕ → ℕ → List ℕ
+spanBytes message k start n = countBytes k n ++ between (quoteOf k) (spanOf message start n) []
 
 abbrev pub emptyTuple : List ℕ
 emptyTuple = code "{" ∷ code "}" ∷ []
 
--- the text of a leaf; a span is as spelled in the message
+-- the text of a leaf
 unfoldable pub leafBytes : List ℕ → Row → List ℕ
 leafBytes message r =
     cond (eqb (r .kind) integerKind) (textOn (T.int (integerOfRow r)) [])
-    (cond (eqb (r .kind) atomKind) (between (code "'") (spanOf message (r .first) (r .second)) [])
-    (cond (eqb (r .kind) stringKind) (between (code "\"") (spanOf message (r .first) (r .second)) [])
-    (cond (eqb (r .kind) binaryKind) (binaryBytes message (r .first) (r .second))
+    (cond (isSpanKind (r .kind)) (spanBytes message (r .kind) (r .first) (r .second))
     (cond (eqb (r .kind) nilKind) (code "#" ∷ [])
-    emptyTuple))))
+    emptyTuple))
 
 -- a leaf whose span, where it has one, lies in the slice
 unfoldable pub Inside : List ℕ → Row → Type 0

@@ -1,5 +1,6 @@
 -- 01, 'Plain text': how many bytes a row's text has, from the lengths of the texts of the rows that it names.
 use Prim.Native.Nat.{ℕ, _+_, _<_, min}
+use mathlib.Core.Path.{_≡_}
 use mathlib.Core.Bool.{cond}
 use mathlib.Core.List.{List, [], _∷_}
 use lib.ListN.{length, getD}
@@ -7,7 +8,7 @@ use lib.Dec.{eqb}
 use Rattle.format.specs.Term as T
 use Rattle.format.specs.Term.{Term}
 use Rattle.format.specs.Text.{naturalOn, textOn}
-use Rattle.format.specs.Rows.{Row, integerKind, atomKind, stringKind, binaryKind, nilKind, consKind, endKind, fieldKind, tagKind, integerOfRow}
+use Rattle.format.specs.Rows.{Row, integerKind, atomKind, stringKind, binaryKind, nilKind, consKind, endKind, fieldKind, tagKind, integerOfRow, termAt}
 
 -- how many bytes a term's text has, without `$`
 abbrev pub textLength : Term → ℕ
@@ -57,3 +58,7 @@ capped n = min n longest
 -- the length that row i's word holds
 abbrev pub lengthIn : List ℕ → ℕ → ℕ
 lengthIn lengths i = getD lengths i 0
+
+-- the rows before row i have the lengths of their texts in their words
+abbrev pub Measured : List ℕ → List Row → List ℕ → ℕ → Type 0
+Measured message rows lengths i = (j : ℕ) → j < i → getD lengths j 0 ≡ capped (textLength (termAt message rows j))

@@ -10,7 +10,7 @@ ghost use Rattle.format.specs.Term as T;
 ghost use Rattle.format.specs.Text.{between, textOn};
 ghost use Rattle.format.specs.Rows.{spanOf};
 ghost use Rattle.table.specs.Words.{rowOf};
-ghost use Rattle.text.specs.Leaves.{integerBytes, binaryBytes, emptyTuple, isLeafKind, leafBytes, Inside};
+ghost use Rattle.text.specs.Leaves.{integerBytes, quoteOf, countBytes, spanBytes, emptyTuple, isLeafKind, leafBytes, Inside};
 use crate::decimal;
 use crate::span;
 use format::Offset;
@@ -95,15 +95,39 @@ pub(crate) fn put_quoted(
     put_byte(output, end, quote)
 }
 
-// Stores a binary from `at` on, and answers the place after it.
-fn put_binary(message: &[u8], output: &mut [u8], at: usize, start: Offset, n: usize) -> usize
-    requires { ⌜ start .0 + n ≤ length (now message) ⌝ }
-    requires { ⌜ at + length (binaryBytes (now message) (start .0) n) ≤ length (now output) ⌝ }
-    ensures { λ r. ⌜ now (output .exit) ≡ sets (now (output .entry)) at (binaryBytes (now (message .entry)) (start .0) n) ⌝ }
-    ensures { λ r. ⌜ r ≡ at + length (binaryBytes (now (message .entry)) (start .0) n) ⌝ }
+// What stands before and after the bytes of an atom, a string or a binary.
+fn quote_of(k: u32) -> u8
+    ensures { λ r. ⌜ r ≡ quoteOf k ⌝ }
 {
-    let tilde = decimal::put_natural(output, at, n as u64);
-    put_quoted(message, output, tilde, byte::TILDE, start, n)
+    match k {
+        kind::ATOM => byte::ATOM_QUOTE,
+        kind::STRING => byte::STRING_QUOTE,
+        // a binary, the only kind left
+        _ => byte::TILDE,
+    }
+}
+
+// Stores the count of n bytes from `at` on, where they are a binary's, and answers the place after it.
+fn put_count(output: &mut [u8], at: usize, k: u32, n: usize) -> usize
+    requires { ⌜ at + length (countBytes k n) ≤ length (now output) ⌝ }
+    ensures { λ r. ⌜ now (output .exit) ≡ sets (now (output .entry)) at (countBytes k n) ⌝ }
+    ensures { λ r. ⌜ r ≡ at + length (countBytes k n) ⌝ }
+{
+    if k == kind::BINARY {
+        return decimal::put_natural(output, at, n as u64);
+    }
+    at
+}
+
+// Stores an atom, a string or a binary from `at` on, and answers the place after it: one copy of the code for all three.
+fn put_bytes(message: &[u8], output: &mut [u8], at: usize, k: u32, start: Offset, n: usize) -> usize
+    requires { ⌜ start .0 + n ≤ length (now message) ⌝ }
+    requires { ⌜ at + length (spanBytes (now message) k (start .0) n) ≤ length (now output) ⌝ }
+    ensures { λ r. ⌜ now (output .exit) ≡ sets (now (output .entry)) at (spanBytes (now (message .entry)) k (start .0) n) ⌝ }
+    ensures { λ r. ⌜ r ≡ at + length (spanBytes (now (message .entry)) k (start .0) n) ⌝ }
+{
+    let quote = put_count(output, at, k, n);
+    put_quoted(message, output, quote, quote_of(k), start, n)
 }
 
 // Whether a row of this kind is a leaf.
@@ -148,9 +172,7 @@ pub(crate) fn put(message: &[u8], output: &mut [u8], at: usize, words: RowWords)
     let n = words.second as usize;
     match k {
         kind::INTEGER => put_halves(output, at, words.first, words.second),
-        kind::ATOM => put_quoted(message, output, at, byte::ATOM_QUOTE, start, n),
-        kind::STRING => put_quoted(message, output, at, byte::STRING_QUOTE, start, n),
-        kind::BINARY => put_binary(message, output, at, start, n),
+        kind::ATOM | kind::STRING | kind::BINARY => put_bytes(message, output, at, k, start, n),
         kind::NIL => put_byte(output, at, byte::HASH),
         // a tuple's end, the only kind of leaf left
         _ => put_braces(output, at),

@@ -1,15 +1,15 @@
 //! The writer: the plain text of a row table's root, in lent memory alone.
 ghost use mathlib.Core.Path.{_≡_};
+ghost use mathlib.Core.Bool.{_&&_};
 ghost use mathlib.Core.List.{List};
 ghost use Prim.Native.Nat.{ℕ, _≤_};
 ghost use lib.Dec.{T};
 ghost use lib.ListN.{length};
-ghost use Rattle.format.specs.Answer.{zeroed, writeText, writeAnswer};
+ghost use Rattle.format.specs.Answer.{zeroed, writeAnswer};
 ghost use Rattle.format.specs.Bound.{messageBound};
-ghost use Rattle.format.specs.Rows.{rowsOf, termAt};
-ghost use Rattle.format.specs.Sound.{soundTable};
-ghost use Rattle.format.specs.Text.{plain};
-ghost use Rattle.text.specs.Answers.{writtenAs};
+ghost use Rattle.format.specs.Rows.{rowsOf};
+ghost use Rattle.format.specs.Sound.{countFits, rootAmong};
+ghost use Rattle.text.specs.Answers.{writtenAs, writeRows};
 use format::Row;
 use format::bound;
 use format::refusal;
@@ -20,6 +20,7 @@ mod decimal;
 mod leaf;
 mod length;
 mod measure;
+mod row;
 mod span;
 mod store;
 mod walk;
@@ -30,17 +31,20 @@ pub enum Written {
     Refused(u8),
 }
 
-// Writes the plain text of a sound table's root where it has room. The stack has a word for each row used.
-fn write_text(
+// Writes the plain text of the root where the rows are sound and it has room. The stack has a word for each row used.
+fn write_rows(
     message: &[u8],
     rows: &[u32],
     root: Row,
     stack: &mut [u32],
     output: &mut [u8],
 ) -> Written
-    requires { ⌜ T (soundTable (now message) (now rows) (length (now stack)) (root .0)) ⌝ }
-    ensures { λ r. ⌜ ((scratch : List ℕ) → writtenAs r (zeroed scratch) (now (output .exit)) ≡ writeText (plain (termAt (now (message .entry)) (rowsOf (length (now (stack .entry))) (now (rows .entry))) (root .0))) scratch (now (output .entry))) ⌝ }
+    requires { ⌜ T (countFits (now rows) (length (now stack)) && rootAmong (length (now stack)) (root .0)) ⌝ }
+    ensures { λ r. ⌜ ((scratch : List ℕ) → writtenAs r (zeroed scratch) (now (output .exit)) ≡ writeRows (now (message .entry)) (rowsOf (length (now (stack .entry))) (now (rows .entry))) (root .0) scratch (now (output .entry))) ⌝ }
 {
+    if !measure::judge(message, rows, stack) {
+        return Written::Refused(refusal::UNSOUND);
+    }
     if !measure::fits(message, rows, root, stack, output.len()) {
         return Written::Refused(refusal::TOO_LONG);
     }
@@ -59,11 +63,14 @@ fn write_table(
     requires { ⌜ (length (now message) ≤ messageBound) × (used ≤ length (now scratch)) ⌝ }
     ensures { λ r. ⌜ writtenAs r (zeroed (now (scratch .entry))) (now (output .exit)) ≡ writeAnswer (now (message .entry)) (now (rows .entry)) used (root .0) (now (scratch .entry)) (now (output .entry)) ⌝ }
 {
-    if !sound::sound_table(message, rows, used, root) {
+    if !sound::count_fits(rows, used) {
+        return Written::Refused(refusal::UNSOUND);
+    }
+    if !sound::root_among(used, root) {
         return Written::Refused(refusal::UNSOUND);
     }
     let n = used as usize;
-    write_text(message, rows, root, &mut scratch[..n], output)
+    write_rows(message, rows, root, &mut scratch[..n], output)
 }
 
 // Writes the plain text of row `root` of a table of `used` rows at the head of the output. The scratch is working memory, a word for each row used.

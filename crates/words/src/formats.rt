@@ -1,9 +1,9 @@
 //! The ten known names, and the width, the sign and the byte order that each of them names (01, 'Sensor words').
 ghost use mathlib.Core.Path.{_≡_};
-ghost use Prim.Native.Nat.{_+_, _≤_, _<_};
+ghost use Prim.Native.Nat.{_+_, _*_, _≤_, _<_};
 ghost use lib.ListN.{length};
 ghost use Rattle.format.specs.Rows.{spanOf};
-ghost use Rattle.format.specs.Word.{formats, formatIn};
+ghost use Rattle.format.specs.Word.{big, joined, formats, formatIn};
 ghost use Rattle.words.specs.Known.{found, layoutAt};
 use crate::join::join;
 use format::Offset;
@@ -30,7 +30,9 @@ pub(crate) enum Found {
 // How many names are known.
 const KNOWN: usize = 10;
 
-// Bytes of the longest of them.
+// Bytes of the shortest and of the longest of them.
+const SHORTEST: usize = 2;
+
 const LONGEST: usize = 5;
 
 // Each name as a number, its bytes joined as those of a big-endian word, and how many bytes it has.
@@ -80,6 +82,20 @@ const ORDERS: [Order; 10] = [
     Order::Little, // i32le
 ];
 
+// The n bytes of a name joined. Where it is as long as a known one, the compiler knows how many they are, and joins them with no test between two.
+fn join_name(message: &[u8], start: Offset, n: usize) -> u64
+    requires { ⌜ (start .0 + n ≤ length (now message)) × (8 * n ≤ 64) ⌝ }
+    ensures { λ r. ⌜ r ≡ joined big (spanOf (now (message .entry)) (start .0) n) ⌝ }
+{
+    if n == LONGEST {
+        return join(message, start, LONGEST, Order::Big);
+    }
+    if n == SHORTEST {
+        return join(message, start, SHORTEST, Order::Big);
+    }
+    join(message, start, n, Order::Big)
+}
+
 // What the n bytes from `start` on say, as a name.
 pub(crate) fn find(message: &[u8], start: Offset, n: usize) -> Found
     requires { ⌜ start .0 + n ≤ length (now message) ⌝ }
@@ -88,7 +104,7 @@ pub(crate) fn find(message: &[u8], start: Offset, n: usize) -> Found
     if LONGEST < n {
         return Found::Unknown;
     }
-    let name = join(message, start, n, Order::Big);
+    let name = join_name(message, start, n);
     // taken whole, so that at each place of the unrolled loop its entry is known: an index into a constant writes the table out anew
     let names = NAMES;
     let bytes = NAME_BYTES;

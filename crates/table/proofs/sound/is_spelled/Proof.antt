@@ -1,21 +1,24 @@
--- `table::sound::is_spelled` meets its contract: the span from a place on is judged as the whole span is.
+-- `table::sound::is_spelled` meets its contract: the bytes from a place on are judged as all of them are.
 use Prim.Native.Nat.{_-_}
-use mathlib.Core.Path.{_≡_, refl, sym, _∙_}
+use mathlib.Core.Path.{_≡_, sym, _∙_}
+use mathlib.Core.Bool.{false}
 use native.Mathlib.Omega.{arith}
+use lib.ListN.{length}
 use borrow.Author.Tests.{not-true, not-false}
+use Rattle.format.specs.Sound.{spelled}
 use Rattle.format.proofs.PlainRuns.{not-before}
 use Rattle.table.proofs.Spelled as laws
 use Rattle.table.proofs.sound.is_spelled.Statement.{statement}
 use Rattle.table.proofs.sound.is_spelled.Tie as tie
 
 abbrev Inv-loop : tie.InvT-loop
-Inv-loop message quote start end i₀ i = laws.from message quote end i ≡ laws.from message quote end start
+Inv-loop text quote i₀ i = laws.from text quote (length text) i ≡ spelled quote false text
 
 abbrev μ-loop : tie.MeasureT-loop
-μ-loop message quote start end i₀ i = end - i
+μ-loop text quote i₀ i = length text - i
 
 loop-holds : tie.Need-loop-holds Inv-loop μ-loop
-loop-holds c = refl
+loop-holds c = laws.begins _ _
 
 plain-end-by-blocks-requires : tie.Need-plain-end-by-blocks-requires Inv-loop μ-loop
 plain-end-by-blocks-requires c κs = tt

@@ -5,6 +5,7 @@ use native.Mathlib.Omega.{arith}
 use borrow.Author.Tests.{not-true, not-false}
 use Rattle.format.specs.Rows.{rowsOf}
 use Rattle.format.specs.Sound.{soundRows}
+use Rattle.table.proofs.Parts.{words-fail, text-fails, both-pass}
 use Rattle.table.proofs.Judged as laws
 use Rattle.table.proofs.sound.sound_rows.Statement.{statement}
 use Rattle.table.proofs.sound.sound_rows.Tie as tie
@@ -21,30 +22,46 @@ loop-holds c = laws.begins _ _ _
 read-row-requires : tie.Need-read-row-requires Inv-loop μ-loop
 read-row-requires c κs = omega arith
 
-sound-row-requires : tie.Need-sound-row-requires Inv-loop μ-loop
-sound-row-requires c κs = tt
+sound-words-requires : tie.Need-sound-words-requires Inv-loop μ-loop
+sound-words-requires c κs = tt
 
 returns : tie.Need-returns Inv-loop μ-loop
 returns c =
     let own = c .before .before in
     let turn = own .before in
-    let unsound = sym (c .before .sound-row .ensures) ∙ not-true _ (c .if1 .taken) in
+    let unsound = words-fail _ _ _ (sym (c .before .sound-words .ensures) ∙ not-true _ (c .if1 .taken)) in
+    sym (laws.row-fails _ _ _ (omega arith) _ (turn .loop-test .taken) _ (own .read-row .ensures) unsound) ∙ turn .before .loop .inv
+
+sound-text-requires : tie.Need-sound-text-requires Inv-loop μ-loop
+sound-text-requires c κs = tt
+
+returns-2 : tie.Need-returns-2 Inv-loop μ-loop
+returns-2 c =
+    let known = c .before .before in
+    let own = known .before .before in
+    let turn = own .before in
+    let words = sym (known .before .sound-words .ensures) ∙ not-false _ (known .if1 .left) in
+    let unsound = text-fails _ _ _ words (sym (c .before .sound-text .ensures) ∙ not-true _ (c .if2 .taken)) in
     sym (laws.row-fails _ _ _ (omega arith) _ (turn .loop-test .taken) _ (own .read-row .ensures) unsound) ∙ turn .before .loop .inv
 
 rest-fits-requires : tie.Need-rest-fits-requires Inv-loop μ-loop
 rest-fits-requires c κs =
-    let own = c .before .before in
+    let known = c .before .before in
+    let own = known .before .before in
     let turn = own .before in
-    let sound = sym (c .before .sound-row .ensures) ∙ not-false _ (c .if1 .left) in
+    let words = sym (known .before .sound-words .ensures) ∙ not-false _ (known .if1 .left) in
+    let sound = both-pass _ _ _ words (sym (c .before .sound-text .ensures) ∙ not-false _ (c .if2 .left)) in
     (laws.cons-room _ _ _ (omega arith) _ (turn .loop-test .taken) _ (own .read-row .ensures) sound, laws.field-room _ _ _ (omega arith) _ (turn .loop-test .taken) _ (own .read-row .ensures) sound)
 
-returns-2 : tie.Need-returns-2 Inv-loop μ-loop
-returns-2 c =
+returns-3 : tie.Need-returns-3 Inv-loop μ-loop
+returns-3 c =
     let past = c .before .before in
-    let own = past .before .before in
+    let known = past .before .before in
+    let own = known .before .before in
     let turn = own .before in
-    let sound = sym (past .before .sound-row .ensures) ∙ not-false _ (past .if1 .left) in
-    let rest = sym (c .before .rest-fits .ensures) ∙ not-true _ (c .if2 .taken) in
+    let words = sym (known .before .sound-words .ensures) ∙ not-false _ (known .if1 .left) in
+    let sound = both-pass _ _ _ words (sym (past .before .sound-text .ensures) ∙ not-false _ (past .if2 .left)) in
+    let rest = sym (c .before .rest-fits .ensures) ∙ not-true _ (c .if3 .taken) in
     sym (laws.rest-fails _ _ _ (omega arith) _ (turn .loop-test .taken) _ (own .read-row .ensures) sound rest) ∙ turn .before .loop .inv
 
 add-i : tie.Need-add-i Inv-loop μ-loop
@@ -56,14 +73,16 @@ loop-less c = omega arith
 loop-again : tie.Need-loop-again Inv-loop μ-loop
 loop-again c =
     let past = c .before .before in
-    let own = past .before .before in
+    let known = past .before .before in
+    let own = known .before .before in
     let turn = own .before in
-    let sound = sym (past .before .sound-row .ensures) ∙ not-false _ (past .if1 .left) in
-    let rest = sym (c .before .rest-fits .ensures) ∙ not-false _ (c .if2 .left) in
+    let words = sym (known .before .sound-words .ensures) ∙ not-false _ (known .if1 .left) in
+    let sound = both-pass _ _ _ words (sym (past .before .sound-text .ensures) ∙ not-false _ (past .if2 .left)) in
+    let rest = sym (c .before .rest-fits .ensures) ∙ not-false _ (c .if3 .left) in
     sym (laws.passes _ _ _ (omega arith) _ (turn .loop-test .taken) _ (own .read-row .ensures) sound rest) ∙ turn .before .loop .inv
 
-returns-3 : tie.Need-returns-3 Inv-loop μ-loop
-returns-3 c = sym (laws.ends _ _ _ _ (c .loop-test .left)) ∙ c .before .loop .inv
+returns-4 : tie.Need-returns-4 Inv-loop μ-loop
+returns-4 c = sym (laws.ends _ _ _ _ (c .loop-test .left)) ∙ c .before .loop .inv
 
 pub sound-rows-spec : {M : Type 1} → statement M
 sound-rows-spec =
@@ -73,11 +92,13 @@ sound-rows-spec =
     μ-loop
     loop-holds
     read-row-requires
-    sound-row-requires
+    sound-words-requires
     returns
-    rest-fits-requires
+    sound-text-requires
     returns-2
+    rest-fits-requires
+    returns-3
     add-i
     loop-less
     loop-again
-    returns-3)
+    returns-4)

@@ -1,67 +1,35 @@
--- `text::span::put_span` meets its contract: what is left of the span, stored into the output as it is, is the span stored into the
--- output as it was at first.
-use Prim.Native.Nat.{_-_}
-use mathlib.Core.Path.{refl}
-use native.Mathlib.Omega.{arith}
-use Rattle.text.proofs.Spans as laws
+-- `text::span::put_span` meets its contract: each of its three ways stores the span.
+use mathlib.Core.Path.{_≡_, refl, ap, _∙_}
+use mathlib.Core.Logic.{⊎-elim}
+use denote.Ref.{now}
+use lib.ListN.{length}
+use lib.Seq.{sets, length-sets}
+use borrow.Author.Needs.{needs}
+use Rattle.format.specs.Rows.{spanOf}
 use Rattle.text.proofs.span.put_span.Statement.{statement}
 use Rattle.text.proofs.span.put_span.Tie as tie
 
-abbrev Inv-loop : tie.InvT-loop
-Inv-loop message n output₀ at from i₀ output i = laws.Copying message from at n output₀ output i
+put-by-long-requires : tie.Need-put-by-long-requires
+put-by-long-requires c κs = search needs
 
-abbrev μ-loop : tie.MeasureT-loop
-μ-loop message n output₀ at from i₀ output i = n - i
+put-by-short-requires : tie.Need-put-by-short-requires
+put-by-short-requires c κs = search needs
 
-loop-holds : tie.Need-loop-holds Inv-loop μ-loop
-loop-holds c = laws.begins _ _ _ _ _
+put-by-one-requires : tie.Need-put-by-one-requires
+put-by-one-requires c κs = search needs
 
-add-next : tie.Need-add-next Inv-loop μ-loop
-add-next c = omega arith
+-- where the three ways meet
+stored : (c : tie.Joined1) → (let given = c .before .before .before .args in c .if1 .output ≡ sets (now (given .output)) (given .at) (spanOf (now (given .message)) (given .start .0) (given .n)))
+stored c = ⊎-elim (λ long. long .5 ∙ long .2 .ensures) (⊎-elim (λ short. short .6 ∙ short .3 .ensures) (λ one. one .6 ∙ one .3 .ensures)) (c .if1 .came)
 
-add-output : tie.Need-add-output Inv-loop μ-loop
-add-output c = omega arith
+add-result : tie.Need-add-result
+add-result c = search needs
 
-shared-slice-read-output : tie.Need-shared-slice-read-output Inv-loop μ-loop
-shared-slice-read-output c = omega arith
+same-length : tie.Need-same-length
+same-length c = ap length (stored c) ∙ simp length-sets
 
-add-output-2 : tie.Need-add-output-2 Inv-loop μ-loop
-add-output-2 c = omega arith
-
-slice-write-output : tie.Need-slice-write-output Inv-loop μ-loop
-slice-write-output c = omega arith
-
-loop-less : tie.Need-loop-less Inv-loop μ-loop
-loop-less c = omega arith
-
-loop-again : tie.Need-loop-again Inv-loop μ-loop
-loop-again c =
-    let turn = c .before in
-    laws.copies _ _ _ _ _ (turn .before .loop .inv) (turn .before .before .pre .0) (turn .loop-test .taken)
-
-add-result : tie.Need-add-result Inv-loop μ-loop
-add-result c = omega arith
-
-same-length : tie.Need-same-length Inv-loop μ-loop
-same-length c = c .before .loop .inv .same
-
-returns : tie.Need-returns Inv-loop μ-loop
-returns c = (laws.ends _ _ _ _ _ (c .before .loop .inv) (c .loop-test .left), refl)
+returns : tie.Need-returns
+returns c = (stored c, refl)
 
 pub put-span-spec : {M : Type 1} → statement M
-put-span-spec =
-    tie.close
-    (tie.spec
-    Inv-loop
-    μ-loop
-    loop-holds
-    add-next
-    add-output
-    shared-slice-read-output
-    add-output-2
-    slice-write-output
-    loop-less
-    loop-again
-    add-result
-    same-length
-    returns)
+put-span-spec = tie.close (tie.spec put-by-long-requires put-by-short-requires put-by-one-requires add-result same-length returns)

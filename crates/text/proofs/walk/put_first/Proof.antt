@@ -3,9 +3,10 @@ use mathlib.Core.Path.{_≡_, sym, _∙_}
 use mathlib.Core.Bool.{true, false}
 use native.Mathlib.Omega.{arith}
 use borrow.Author.Tests.{not-true, not-false}
-use Rattle.table.specs.Words.{rowOf}
+use Rattle.table.specs.Words.{rowOf, lastFirst}
 use Rattle.text.specs.Leaves.{isLeafKind}
-use Rattle.text.proofs.Entering.{Entering, starts, frame-fits, begin-fits, first-earlier, entered, leaf-fits, leaf-stored}
+use Rattle.text.proofs.Frames.{above-room}
+use Rattle.text.proofs.Entering.{Entering, starts, frame-fits, begin-fits, first-earlier, first-room, entered, leaf-fits, leaf-stored}
 use Rattle.text.proofs.walk.put_first.Statement.{statement}
 use Rattle.text.proofs.walk.put_first.Tie as tie
 
@@ -24,16 +25,18 @@ is-leaf : (c : tie.Else1 Inv-loop μ-loop) → isLeafKind (c .before .before .lo
 is-leaf c = sym (c .before .is-leaf .ensures) ∙ not-false _ (c .if1 .left)
 
 -- back from the read of the next row to the test
-abbrev test : (c : tie.After-load-row2 Inv-loop μ-loop) → tie.Then1 Inv-loop μ-loop
+abbrev test : (c : tie.After-read-row2 Inv-loop μ-loop) → tie.Then1 Inv-loop μ-loop
 test c = c .before .before .before .before .before .before
 
-load-row-requires : tie.Need-load-row-requires Inv-loop μ-loop
-load-row-requires c κs = tt
+read-row-requires : tie.Need-read-row-requires Inv-loop μ-loop
+read-row-requires c κs =
+    let start = c .before .before .before .before in
+    above-room (start .args .message .now) _ _ (start .pre .1 .fits) _ (lastFirst (start .args .stack .now) (start .args .depth)) (start .pre .0)
 
 loop-holds : tie.Need-loop-holds Inv-loop μ-loop
 loop-holds c =
     let start = c .before .before .before .before .before in
-    starts _ _ _ _ _ _ _ (start .pre .0) (start .pre .1) (c .load-row .ensures)
+    starts _ _ _ _ _ _ _ (start .pre .0) (start .pre .1) (c .read-row .ensures)
 
 is-leaf-requires : tie.Need-is-leaf-requires Inv-loop μ-loop
 is-leaf-requires c κs = tt
@@ -50,8 +53,11 @@ slice-write-stack c = frame-fits _ _ _ _ _ _ _ _ _ _ _ _ _ (c .before .before .l
 begin-requires : tie.Need-begin-requires Inv-loop μ-loop
 begin-requires c κs = begin-fits _ _ _ _ _ _ _ _ _ _ _ _ _ (c .before .before .before .loop .inv) (is-inner (c .before))
 
-load-row-requires-2 : tie.Need-load-row-requires-2 Inv-loop μ-loop
-load-row-requires-2 c κs = tt
+read-row-requires-2 : tie.Need-read-row-requires-2 Inv-loop μ-loop
+read-row-requires-2 c κs =
+    let begun = c .before .before .before in
+    let taken = begun .before .before in
+    omega (arith, begun .begin .ensures .1 .1, first-room _ _ _ _ _ _ _ _ _ _ _ _ _ (taken .before .before .loop .inv) (is-inner taken))
 
 loop-less : tie.Need-loop-less Inv-loop μ-loop
 loop-less c =
@@ -61,7 +67,7 @@ loop-less c =
 loop-again : tie.Need-loop-again Inv-loop μ-loop
 loop-again c =
     let begun = c .before .before .before .before in
-    entered _ _ _ _ _ _ _ _ _ _ _ _ _ (test c .before .before .loop .inv) (is-inner (test c)) _ _ _ _ (begun .begin .ensures .0) (begun .begin .ensures .1) (c .load-row2 .ensures)
+    entered _ _ _ _ _ _ _ _ _ _ _ _ _ (test c .before .before .loop .inv) (is-inner (test c)) _ _ _ _ (begun .begin .ensures .0) (begun .begin .ensures .1) (c .read-row2 .ensures)
 
 put-requires : tie.Need-put-requires Inv-loop μ-loop
 put-requires c κs = leaf-fits _ _ _ _ _ _ _ _ _ _ _ _ _ (c .before .before .before .loop .inv) (is-leaf (c .before))
@@ -86,14 +92,14 @@ put-first-spec =
     (tie.spec
     Inv-loop
     μ-loop
-    load-row-requires
+    read-row-requires
     loop-holds
     is-leaf-requires
     add-above
     mul-stack
     slice-write-stack
     begin-requires
-    load-row-requires-2
+    read-row-requires-2
     loop-less
     loop-again
     put-requires

@@ -4,7 +4,7 @@ use mathlib.Core.Bool.{true}
 use native.Mathlib.Omega.{arith}
 use borrow.Author.Needs.{needs}
 use Rattle.text.specs.Leaves.{isLeafKind}
-use Rattle.text.proofs.Items.{begun-fits, begun-done, leaf-fits, and-fits, item-done, into}
+use Rattle.text.proofs.Items.{item-room, begun-fits, begun-done, leaf-fits, and-fits, item-done, into}
 use Rattle.text.proofs.walk.put_item.Statement.{statement}
 use Rattle.text.proofs.walk.put_item.Tie as tie
 
@@ -13,7 +13,7 @@ abbrev call : (c : tie.After-slice-known3) → tie.Start
 call c = c .before .before .before .before .before
 
 -- the item is a leaf
-is-leaf : (c : tie.Then2) → isLeafKind (c .before .before .load-row .result .kind) ≡ true
+is-leaf : (c : tie.Then2) → isLeafKind (c .before .before .read-row .result .kind) ≡ true
 is-leaf c = sym (c .before .is-leaf .ensures) ∙ c .if2 .taken
 
 mul-frame : tie.Need-mul-frame
@@ -38,8 +38,10 @@ returns c =
     let p = call (test .before) .pre in
     begun-done _ _ _ _ _ _ _ (p .1 .0) (p .1 .1 .0) (p .1 .1 .1) (test .if1 .taken) _ _ (put .put-byte .ensures)
 
-load-row-requires : tie.Need-load-row-requires
-load-row-requires c κs = tt
+read-row-requires : tie.Need-read-row-requires
+read-row-requires c κs =
+    let p = call (c .before) .pre in
+    item-room _ _ _ _ _ _ _ (p .1 .0) (p .1 .1 .0) (p .1 .1 .1)
 
 is-leaf-requires : tie.Need-is-leaf-requires
 is-leaf-requires c κs = tt
@@ -48,7 +50,7 @@ put-requires : tie.Need-put-requires
 put-requires c κs =
     let read = c .before .before .before in
     let p = call (read .before .before) .pre in
-    leaf-fits _ _ _ _ _ _ _ (p .1 .0) (p .1 .1 .0) (p .1 .1 .1) (read .before .if1 .left) _ (read .load-row .ensures) (is-leaf (c .before))
+    leaf-fits _ _ _ _ _ _ _ (p .1 .0) (p .1 .1 .0) (p .1 .1 .1) (read .before .if1 .left) _ (read .read-row .ensures) (is-leaf (c .before))
 
 put-byte-requires-2 : tie.Need-put-byte-requires-2
 put-byte-requires-2 c κs =
@@ -56,7 +58,7 @@ put-byte-requires-2 c κs =
     let test = put .before .before in
     let read = test .before .before in
     let p = call (read .before .before) .pre in
-    and-fits _ _ _ _ _ _ _ (p .1 .0) (p .1 .1 .0) (p .1 .1 .1) (read .before .if1 .left) _ (read .load-row .ensures) (is-leaf test) _ _ (put .put .ensures)
+    and-fits _ _ _ _ _ _ _ (p .1 .0) (p .1 .1 .0) (p .1 .1 .1) (read .before .if1 .left) _ (read .read-row .ensures) (is-leaf test) _ _ (put .put .ensures)
 
 same-length-2 : tie.Need-same-length-2
 same-length-2 c = search needs
@@ -68,7 +70,7 @@ returns-2 c =
     let test = put .before .before in
     let read = test .before .before in
     let p = call (read .before .before) .pre in
-    item-done _ _ _ _ _ _ _ (p .1 .0) (p .1 .1 .0) (p .1 .1 .1) (read .before .if1 .left) _ (read .load-row .ensures) (is-leaf test) _ _ (put .put .ensures) _ _ (closing .put-byte2 .ensures)
+    item-done _ _ _ _ _ _ _ (p .1 .0) (p .1 .1 .0) (p .1 .1 .1) (read .before .if1 .left) _ (read .read-row .ensures) (is-leaf test) _ _ (put .put .ensures) _ _ (closing .put-byte2 .ensures)
 
 add-stack : tie.Need-add-stack
 add-stack c = omega (arith, c .before .before .before .if1 .left)
@@ -86,7 +88,7 @@ returns-3 : tie.Need-returns-3
 returns-3 c =
     let read = c .before .before in
     let p = call (read .before .before) .pre in
-    into _ _ _ _ _ _ _ (p .1 .0) (p .1 .1 .0) (p .1 .1 .1) (read .before .if1 .left) _ (read .load-row .ensures) (p .0)
+    into _ _ _ _ _ _ _ (p .1 .0) (p .1 .1 .0) (p .1 .1 .1) (read .before .if1 .left) _ (read .read-row .ensures) (p .0)
 
 pub put-item-spec : {M : Type 1} → statement M
 put-item-spec =
@@ -97,7 +99,7 @@ put-item-spec =
     put-byte-requires
     same-length
     returns
-    load-row-requires
+    read-row-requires
     is-leaf-requires
     put-requires
     put-byte-requires-2

@@ -34,8 +34,8 @@ name-length c = let a = c .before .args in length-span (now (a .message)) (a .st
 returns : tie.Need-returns Inv-loop μ-loop
 returns c = sym (laws.long-unknown _ (omega (arith, name-length (c .before), c .if1 .taken)))
 
-join-requires : tie.Need-join-requires Inv-loop μ-loop
-join-requires c κs = (c .before .before .pre, omega (arith, c .if1 .left))
+join-name-requires : tie.Need-join-name-requires Inv-loop μ-loop
+join-name-requires c κs = (c .before .before .pre, omega (arith, c .if1 .left))
 
 loop-holds : tie.Need-loop-holds Inv-loop μ-loop
 unfolding formats format bytesOf joined joinAfter orderAs
@@ -75,7 +75,7 @@ returns-2 c =
     let joined = turn .before .before in
     let start = joined .before .before in
     let inv = turn .before .loop .inv in
-    ap Known (laws.tables-at _ _ _ (inv .3) (turn .before .loop .i)) ∙ sym (laws.name-found _ _ (inv .1) _ _ _ (turn .loop-test .taken) (inv .2) (c .before .before .if2 .taken) (c .before .if3 .taken) _ (name-bytes start) (name-length start) (joined .join .ensures))
+    ap Known (laws.tables-at _ _ _ (inv .3) (turn .before .loop .i)) ∙ sym (laws.name-found _ _ (inv .1) _ _ _ (turn .loop-test .taken) (inv .2) (c .before .before .if2 .taken) (c .before .if3 .taken) _ (name-bytes start) (name-length start) (joined .join-name .ensures))
 
 loop-less : tie.Need-loop-less Inv-loop μ-loop
 loop-less c = search needs
@@ -101,7 +101,7 @@ returns-3 c =
     let at = c .before in
     let start = at .before .before .before in
     let all : at .loop .i ≡ 10 = omega (arith, at .loop .inv .0, c .loop-test .left) in
-    sym (laws.all-passed _ _ (rw all at (at .loop .inv .2)) _ (name-bytes start) (name-length start) (at .before .join .ensures))
+    sym (laws.all-passed _ _ (rw all at (at .loop .inv .2)) _ (name-bytes start) (name-length start) (at .before .join-name .ensures))
 
 pub find-spec : {M : Type 1} → statement M
 find-spec =
@@ -110,7 +110,7 @@ find-spec =
     Inv-loop
     μ-loop
     returns
-    join-requires
+    join-name-requires
     loop-holds
     add-next
     mul-if2

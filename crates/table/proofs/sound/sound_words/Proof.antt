@@ -1,21 +1,21 @@
--- `table::sound::sound_row` meets its contract: each arm is the definition's at its kind.
+-- `table::sound::sound_words` meets its contract: each arm is the definition's at its kind.
 use mathlib.Core.Path.{sym}
 use mathlib.Core.Bool.{and-true, and-false}
 use borrow.Author.Needs.{needs}
 use borrow.Author.Tests.{le-ltb, lt-ltb}
-use Rattle.format.specs.Sound.{soundRow}
-use Rattle.table.proofs.Judged.{no-kind}
-use Rattle.table.proofs.sound.sound_row.Statement.{statement}
-use Rattle.table.proofs.sound.sound_row.Tie as tie
+use Rattle.table.specs.Parts.{soundWords}
+use Rattle.table.proofs.Parts.{no-kind}
+use Rattle.table.proofs.sound.sound_words.Statement.{statement}
+use Rattle.table.proofs.sound.sound_words.Tie as tie
 
-sound-text-requires : tie.Need-sound-text-requires
-sound-text-requires c κs = search needs
+sound-span-requires : tie.Need-sound-span-requires
+sound-span-requires c κs = search needs
 
-sound-text-requires-2 : tie.Need-sound-text-requires-2
-sound-text-requires-2 c κs = search needs
+sound-span-requires-2 : tie.Need-sound-span-requires-2
+sound-span-requires-2 c κs = search needs
 
-sound-binary-requires : tie.Need-sound-binary-requires
-sound-binary-requires c κs = search needs
+sound-span-requires-3 : tie.Need-sound-span-requires-3
+sound-span-requires-3 c κs = search needs
 
 sound-end-requires : tie.Need-sound-end-requires
 sound-end-requires c κs = search needs
@@ -30,69 +30,69 @@ sound-cell-requires-2 : tie.Need-sound-cell-requires-2
 sound-cell-requires-2 c κs = search needs
 
 returns : tie.Need-returns
-unfolding soundRow
+unfolding soundWords
 returns c =
     let tag = c .before .before .before in
     let own = tag .before .before .args in
     rw (tag .match .keys9, le-ltb (own .words .third) (own .n .0) (c .if1 .taken), and-false)
 
-spelled-in-requires : tie.Need-spelled-in-requires
-spelled-in-requires c κs = search needs
+in-slice-requires : tie.Need-in-slice-requires
+in-slice-requires c κs = search needs
 
 returns-2 : tie.Need-returns-2
-unfolding soundRow
+unfolding soundWords
 returns-2 c = rw (c .before .match .keys1)
 
 returns-3 : tie.Need-returns-3
-unfolding soundRow
-returns-3 c = rw (c .before .match .keys2) (c .sound-text .ensures)
+unfolding soundWords
+returns-3 c = rw (c .before .match .keys2) (c .sound-span .ensures)
 
 returns-4 : tie.Need-returns-4
-unfolding soundRow
-returns-4 c = rw (c .before .match .keys3) (c .sound-text2 .ensures)
+unfolding soundWords
+returns-4 c = rw (c .before .match .keys3) (c .sound-span2 .ensures)
 
 returns-5 : tie.Need-returns-5
-unfolding soundRow
-returns-5 c = rw (c .before .match .keys4) (c .sound-binary .ensures)
+unfolding soundWords
+returns-5 c = rw (c .before .match .keys4) (c .sound-span3 .ensures)
 
 returns-6 : tie.Need-returns-6
-unfolding soundRow
+unfolding soundWords
 returns-6 c = rw (c .before .match .keys5) (c .sound-end .ensures)
 
 returns-7 : tie.Need-returns-7
-unfolding soundRow
+unfolding soundWords
 returns-7 c = rw (c .before .match .keys6) (c .sound-cell .ensures)
 
 returns-8 : tie.Need-returns-8
-unfolding soundRow
+unfolding soundWords
 returns-8 c = rw (c .before .match .keys7) (c .sound-end2 .ensures)
 
 returns-9 : tie.Need-returns-9
-unfolding soundRow
+unfolding soundWords
 returns-9 c = rw (c .before .match .keys8) (c .sound-cell2 .ensures)
 
 returns-10 : tie.Need-returns-10
-unfolding soundRow
+unfolding soundWords
 returns-10 c =
     let past = c .before in
-    rw (past .before .before .before .match .keys9, lt-ltb _ _ (past .if1 .left), and-true) (c .spelled-in .ensures)
+    rw (past .before .before .before .match .keys9, lt-ltb _ _ (past .if1 .left), and-true) (c .in-slice .ensures)
 
 returns-11 : tie.Need-returns-11
 returns-11 c = sym (no-kind _ _ _ (c .match .rest))
 
-pub sound-row-spec : {M : Type 1} → statement M
-sound-row-spec =
+pub sound-words-spec : {M : Type 1} → statement M
+sound-words-spec =
     tie.close
     (tie.spec
-    sound-text-requires
-    sound-text-requires-2
-    sound-binary-requires
+    sound-span-requires
+    sound-span-requires-2
+    sound-span-requires-3
     sound-end-requires
     sound-cell-requires
     sound-end-requires-2
     sound-cell-requires-2
     returns
-    spelled-in-requires
+    in-slice-requires
     returns-2
     returns-3
     returns-4
