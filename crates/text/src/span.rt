@@ -1,4 +1,5 @@
-//! A span of the message, copied block by block.
+//! A span of the message, copied block by block. A block is loaded whole before it is stored, so that the compiler moves it at once without asking whether
+//! message and output overlap.
 ghost use mathlib.Core.Path.{_≡_};
 ghost use Prim.Native.Nat.{_+_, _≤_};
 ghost use lib.ListN.{length};
@@ -6,19 +7,17 @@ ghost use lib.Seq.{sets};
 ghost use Rattle.format.specs.Rows.{spanOf};
 use format::Offset;
 
-// Bytes of a long and of a short block.
-const LONG: usize = 16;
-
-const SHORT: usize = 4;
+// Bytes of a block.
+const BLOCK: usize = 8;
 
 // The block of the message from `from` on.
-fn load_long(message: &[u8], from: usize) -> [u8; 16]
-    requires { ⌜ from + 16 ≤ length (now message) ⌝ }
-    ensures { λ r. ⌜ r ≡ spanOf (now (message .entry)) from 16 ⌝ }
+fn load_block(message: &[u8], from: usize) -> [u8; 8]
+    requires { ⌜ from + 8 ≤ length (now message) ⌝ }
+    ensures { λ r. ⌜ r ≡ spanOf (now (message .entry)) from 8 ⌝ }
 {
-    let mut block = [0; 16];
+    let mut block = [0; 8];
     let mut i = 0;
-    while i < LONG {
+    while i < BLOCK {
         let next = i + 1;
         block[i] = message[from + i];
         i = next;
@@ -27,73 +26,31 @@ fn load_long(message: &[u8], from: usize) -> [u8; 16]
 }
 
 // Stores a block from `at` on.
-fn store_long(output: &mut [u8], at: usize, block: [u8; 16])
-    requires { ⌜ at + 16 ≤ length (now output) ⌝ }
+fn store_block(output: &mut [u8], at: usize, block: [u8; 8])
+    requires { ⌜ at + 8 ≤ length (now output) ⌝ }
     ensures { λ r. ⌜ now (output .exit) ≡ sets (now (output .entry)) at block ⌝ }
 {
     let mut i = 0;
-    while i < LONG {
+    while i < BLOCK {
         let next = i + 1;
         output[at + i] = block[i];
         i = next;
     }
 }
 
-// The same for a short block.
-fn load_short(message: &[u8], from: usize) -> [u8; 4]
-    requires { ⌜ from + 4 ≤ length (now message) ⌝ }
-    ensures { λ r. ⌜ r ≡ spanOf (now (message .entry)) from 4 ⌝ }
-{
-    let mut block = [0; 4];
-    let mut i = 0;
-    while i < SHORT {
-        let next = i + 1;
-        block[i] = message[from + i];
-        i = next;
-    }
-    block
-}
-
-fn store_short(output: &mut [u8], at: usize, block: [u8; 4])
-    requires { ⌜ at + 4 ≤ length (now output) ⌝ }
-    ensures { λ r. ⌜ now (output .exit) ≡ sets (now (output .entry)) at block ⌝ }
-{
-    let mut i = 0;
-    while i < SHORT {
-        let next = i + 1;
-        output[at + i] = block[i];
-        i = next;
-    }
-}
-
-// Stores n bytes of the message by long blocks. The last block ends where they end, over bytes that may be stored already.
-fn put_by_long(message: &[u8], from: usize, n: usize, output: &mut [u8], at: usize)
-    requires { ⌜ (16 ≤ n) × (from + n ≤ length (now message)) × (at + n ≤ length (now output)) ⌝ }
+// Stores n bytes of the message by blocks. The last block ends where they end, over bytes that may be stored already.
+fn put_by_blocks(message: &[u8], from: usize, n: usize, output: &mut [u8], at: usize)
+    requires { ⌜ (8 ≤ n) × (from + n ≤ length (now message)) × (at + n ≤ length (now output)) ⌝ }
     ensures { λ r. ⌜ now (output .exit) ≡ sets (now (output .entry)) at (spanOf (now (message .entry)) from n) ⌝ }
 {
-    let last = n - LONG;
+    let last = n - BLOCK;
     let mut i = 0;
     while i < last {
-        let next = i + LONG;
-        store_long(output, at + i, load_long(message, from + i));
+        let next = i + BLOCK;
+        store_block(output, at + i, load_block(message, from + i));
         i = next;
     }
-    store_long(output, at + last, load_long(message, from + last));
-}
-
-// The same by short blocks.
-fn put_by_short(message: &[u8], from: usize, n: usize, output: &mut [u8], at: usize)
-    requires { ⌜ (4 ≤ n) × (from + n ≤ length (now message)) × (at + n ≤ length (now output)) ⌝ }
-    ensures { λ r. ⌜ now (output .exit) ≡ sets (now (output .entry)) at (spanOf (now (message .entry)) from n) ⌝ }
-{
-    let last = n - SHORT;
-    let mut i = 0;
-    while i < last {
-        let next = i + SHORT;
-        store_short(output, at + i, load_short(message, from + i));
-        i = next;
-    }
-    store_short(output, at + last, load_short(message, from + last));
+    store_block(output, at + last, load_block(message, from + last));
 }
 
 // Stores n bytes of the message one by one.
@@ -122,12 +79,11 @@ pub(crate) fn put_span(
     ensures { λ r. ⌜ r ≡ at + n ⌝ }
 {
     let from = start.0;
-    if LONG <= n {
-        put_by_long(message, from, n, output, at);
-    } else if SHORT <= n {
-        put_by_short(message, from, n, output, at);
-    } else {
-        put_by_one(message, from, n, output, at);
+    let end = at + n;
+    if BLOCK <= n {
+        put_by_blocks(message, from, n, output, at);
+        return end;
     }
-    at + n
+    put_by_one(message, from, n, output, at);
+    end
 }

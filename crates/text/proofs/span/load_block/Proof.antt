@@ -1,17 +1,18 @@
--- `text::span::load_short` meets its contract, as `load_long` does.
+-- `text::span::load_block` meets its contract: what is left of the block's span, stored into the block as it is, is the span stored into the zeros
+-- that it holds at first.
 use Prim.Native.Nat.{_-_}
 use mathlib.Core.Path.{refl}
 use native.Mathlib.Omega.{arith}
 use Rattle.format.specs.Rows.{spanOf}
 use Rattle.text.proofs.Spans as laws
-use Rattle.text.proofs.span.load_short.Statement.{statement}
-use Rattle.text.proofs.span.load_short.Tie as tie
+use Rattle.text.proofs.span.load_block.Statement.{statement}
+use Rattle.text.proofs.span.load_block.Tie as tie
 
 abbrev Inv-loop : tie.InvT-loop
-Inv-loop message from block₀ i₀ block i = laws.Copying (spanOf message from 4) 0 block₀ block i
+Inv-loop message from block₀ i₀ block i = laws.Copying (spanOf message from 8) 0 block₀ block i
 
 abbrev μ-loop : tie.MeasureT-loop
-μ-loop message from block₀ i₀ block i = 4 - i
+μ-loop message from block₀ i₀ block i = 8 - i
 
 loop-holds : tie.Need-loop-holds Inv-loop μ-loop
 loop-holds c = laws.begins _ _ _
@@ -39,8 +40,8 @@ loop-again c =
 returns : tie.Need-returns Inv-loop μ-loop
 returns c = laws.ends-whole _ _ _ (c .before .before .pre) _ (c .before .loop .inv) refl (c .loop-test .left)
 
-pub load-short-spec : {M : Type 1} → statement M
-load-short-spec =
+pub load-block-spec : {M : Type 1} → statement M
+load-block-spec =
     tie.close
     (tie.spec
     Inv-loop

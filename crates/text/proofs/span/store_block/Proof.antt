@@ -1,17 +1,17 @@
--- `text::span::store_long` meets its contract: what is left of the block, stored into the output as it is, is the block stored into the output as
+-- `text::span::store_block` meets its contract: what is left of the block, stored into the output as it is, is the block stored into the output as
 -- it was at first.
 use Prim.Native.Nat.{_-_}
 use mathlib.Core.Path.{refl}
 use native.Mathlib.Omega.{arith}
 use Rattle.text.proofs.Spans as laws
-use Rattle.text.proofs.span.store_long.Statement.{statement}
-use Rattle.text.proofs.span.store_long.Tie as tie
+use Rattle.text.proofs.span.store_block.Statement.{statement}
+use Rattle.text.proofs.span.store_block.Tie as tie
 
 abbrev Inv-loop : tie.InvT-loop
 Inv-loop output₀ at block i₀ output i = laws.Copying block at output₀ output i
 
 abbrev μ-loop : tie.MeasureT-loop
-μ-loop output₀ at block i₀ output i = 16 - i
+μ-loop output₀ at block i₀ output i = 8 - i
 
 loop-holds : tie.Need-loop-holds Inv-loop μ-loop
 loop-holds c = laws.begins _ _ _
@@ -40,8 +40,8 @@ same-length c = c .before .loop .inv .same
 returns : tie.Need-returns Inv-loop μ-loop
 returns c = laws.ends _ _ _ (c .before .loop .inv) (omega arith)
 
-pub store-long-spec : {M : Type 1} → statement M
-store-long-spec =
+pub store-block-spec : {M : Type 1} → statement M
+store-block-spec =
     tie.close
     (tie.spec
     Inv-loop
