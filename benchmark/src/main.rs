@@ -93,10 +93,11 @@ fn named<T>(choices: Vec<T>, name: fn(&T) -> &str, start: &str) -> Result<T, Str
 fn once(function: &str, mix: &str, size: &str, contender: &str, count: &str) -> Result<(), String> {
     let mix: Mix = named(MIXES.into(), |mix| mix.name, mix)?;
     let message = mix.message(number(size)?);
-    let made = table_of(&message.bytes);
-    let contenders = match function {
-        "decode" => decoding::contenders(&message),
-        _ => writing::rivals(made.table(), &message.value.plain()),
+    // made only where it is wanted, since a profiler counts every call
+    let made = (function == "write").then(|| table_of(&message.bytes));
+    let contenders = match &made {
+        None => decoding::contenders(&message),
+        Some(made) => writing::rivals(made.table(), &message.value.plain()),
     };
     let mut contender = named(contenders, |contender| contender.name, contender)?;
     for _ in 0..number(count)? {
