@@ -4,11 +4,11 @@ ghost use mathlib.Core.List.{List};
 ghost use mathlib.Core.Option.{some};
 ghost use Prim.Native.Nat.{ℕ, _+_, _-_, _≤_, _<_};
 ghost use lib.IntN.{pos};
-ghost use lib.ListN.{length, drop};
+ghost use lib.ListN.{length, drop, getD};
 ghost use Rattle.format.specs.Bound.{messageBound};
 ghost use Rattle.format.specs.Lex.{tildeItem};
 ghost use Rattle.format.specs.Machine.{takeBinary};
-ghost use Rattle.format.specs.Rows.{rowValues, rowInteger};
+ghost use Rattle.format.specs.Rows.{rowValues, rowInteger, rowRoom};
 ghost use Rattle.table.specs.Words.{rowIn, lastFirst};
 ghost use Rattle.decoder.specs.Answers.{tables};
 ghost use Rattle.decoder.specs.Held.{Ready, machineOf, turn, limited, taken};
@@ -19,6 +19,7 @@ use crate::state::State;
 use crate::value;
 use format::Depth;
 use format::Offset;
+use format::ROW_WORDS;
 use format::Row;
 use format::byte;
 use format::kind;
@@ -32,18 +33,20 @@ pub(crate) enum Count {
     Negative,
 }
 
-// The count that row v is.
+// The count that row v is, for which the table has room.
 fn count_of(rows: &[u32], v: Row) -> Count
+    requires { ⌜ v .0 < rowRoom (now rows) ⌝ }
     ensures { λ r. ⌜ r ≡ countAs (rowInteger (rowIn (now (rows .entry)) (v .0))) ⌝ }
 {
-    let w = table::load_row(rows, v);
-    if w.kind != kind::INTEGER {
+    let at = (v.0 as usize) * ROW_WORDS;
+    if rows[at] != kind::INTEGER {
         return Count::NoInteger;
     }
-    if table::SIGN_BIT <= w.first {
+    let high = rows[at + 1];
+    if table::SIGN_BIT <= high {
         return Count::Negative;
     }
-    Count::Of((w.first as u64) * table::WORD_VALUES + (w.second as u64))
+    Count::Of((high as u64) * table::WORD_VALUES + (rows[at + 2] as u64))
 }
 
 // The bytes of a binary after its first `~`: so many, and a `~` after them.
@@ -87,6 +90,7 @@ pub(crate) fn binary_item(
     requires { ⌜ (s .at .0 < length (now message)) × (length (now message) ≤ messageBound) ⌝ }
     requires { ⌜ s .marks ≤ length (now marks) ⌝ }
     requires { ⌜ s .depth .0 ≤ length (now stack) ⌝ }
+    requires { ⌜ ((i : ℕ) → i < s .depth .0 → getD (now stack) i 0 < rowRoom (now rows)) ⌝ }
     ensures { λ r. ⌜ ((registers : List ℕ) → Ready (tables (now (rows .entry)) (now (stack .entry)) (now (marks .entry)) registers) s → turn r (tables (now (rows .exit)) (now (stack .exit)) (now (marks .entry)) registers) ≡ taken (tables (now (rows .entry)) (now (stack .entry)) (now (marks .entry)) registers) s (drop (s .at .0 + 1) (now (message .entry))) tildeItem) ⌝ }
 {
     let at = s.at;

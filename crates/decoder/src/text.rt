@@ -101,7 +101,7 @@ pub(crate) fn tag_item(
     let start = at.0 + 1;
     let depth = s.depth;
     let noted = s.marks;
-    let q = quoted::read_quoted(message, Offset(start), byte::TAG_QUOTE, false);
+    let q = quoted::read_name(message, Offset(start), byte::TAG_QUOTE);
     let Quoted::Closed(length, end) = q else {
         return unclosed(q, Offset(message.len()));
     };

@@ -77,20 +77,20 @@ module _ (quote start : ℕ) (message : List ℕ) where
       passes-backslash : held ≡ false → isMark quote (getD message i 0) ≡ true → (getD message i 0 ≡ quote → ⊥) → Looking escaped (i + 1) true
       passes-backslash e m n = rw (eq-eqb _ _ (is-backslash quote _ m n)) at (passes e n)
 
-  -- the end p of the plain bytes at i
-  module _ {escaped : Bool} {i : ℕ} {held : Bool} (l : Looking escaped i held) (shut : held ≡ false) (h : i < length message) {p : ℕ} (e : p ≡ plainEnd quote message i (length message)) where
+  -- the end p of the plain bytes at i and before `end`
+  module _ {escaped : Bool} {i : ℕ} {held : Bool} (l : Looking escaped i held) (shut : held ≡ false) {end : ℕ} (inside : end ≤ length message) (h : i ≤ end) {p : ℕ} (e : p ≡ plainEnd quote message i end) where
     at-end : Looking escaped p false
     at-end =
-        let m = within quote message i (length message) (omega arith) (omega arith) in
-        let run = plain quote message i (length message) (omega arith) (omega arith) in
+        let m = within quote message i end inside h in
+        let run = plain quote message i end inside h in
         rw e (along quote message run (λ k. Looking escaped k false) (rw shut at l) (λ k b n passed. passes-plain passed (omega (arith, m)) refl n))
 
     pub run-ends : length message ≤ p → Ended false ≡ quotedFrom quote escaped start (drop start message)
     run-ends = ends at-end
 
-    module _ (b : p < length message) where
+    module _ (b : p < end) where
       pub run-closes : getD message p 0 ≡ quote → Closed (p - start) (record { 0 = p + 1 }) ≡ quotedFrom quote escaped start (drop start message)
-      run-closes = closes at-end b refl
+      run-closes = closes at-end (omega arith) refl
 
       pub run-opens : (getD message p 0 ≡ quote → ⊥) → Looking escaped (p + 1) true
-      run-opens = passes-backslash at-end b refl (rw e (stops quote message i (length message) (omega arith) (omega arith) (rw e at b)))
+      run-opens = passes-backslash at-end (omega arith) refl (rw e (stops quote message i end inside h (rw e at b)))

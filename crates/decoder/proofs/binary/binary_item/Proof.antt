@@ -1,5 +1,5 @@
 -- `decoder::binary::binary_item` meets its contract: nothing to pop, no count, or the bytes that it counts.
-use Prim.Native.Nat.{_<_}
+use Prim.Native.Nat.{_-_, _<_}
 use mathlib.Core.Path.{sym, _∙_}
 use denote.Ref.{now}
 use Rattle.format.specs.Machine.{base}
@@ -35,7 +35,10 @@ top-requires : tie.Need-top-requires
 top-requires c κs = omega arith
 
 count-of-requires : tie.Need-count-of-requires
-count-of-requires c κs = search
+count-of-requires c κs =
+    let value = c .before in
+    let start = call (read (test value)) in
+    omega (arith, value .top .ensures, start .pre .1 .1 .1 (start .args .s .depth .0 - 1) (omega arith))
 
 enum-known-q : tie.Need-enum-known-q
 enum-known-q c = search

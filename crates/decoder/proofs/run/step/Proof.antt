@@ -60,7 +60,9 @@ close-item-requires : tie.Need-close-item-requires
 close-item-requires c κs = omega arith
 
 binary-item-requires : tie.Need-binary-item-requires
-binary-item-requires c κs = omega arith
+binary-item-requires c κs =
+    let held = ready (c .before .before .before .before) in
+    (omega arith, (omega arith, (omega arith, λ i l. omega (arith, held .values i l, held .used))))
 
 nil-item-requires : tie.Need-nil-item-requires
 nil-item-requires c κs = omega arith

@@ -14,13 +14,13 @@ use Rattle.decoder.proofs.text.tag_item.Tie as tie
 
 -- the text is no longer than a message
 within : (c : tie.After-q) → c .q .given .0 .0 ≤ messageBound
-within c = omega (arith, shorter _ _ _ _ _ (sym (c .before .before .read-quoted .ensures) ∙ c .q .given .1))
+within c = omega (arith, shorter _ _ _ _ _ (sym (c .before .before .read-name .ensures) ∙ c .q .given .1))
 
 add-start : tie.Need-add-start
 add-start c = omega arith
 
-read-quoted-requires : tie.Need-read-quoted-requires
-read-quoted-requires c κs = search
+read-name-requires : tie.Need-read-name-requires
+read-name-requires c κs = search
 
 enum-known-q : tie.Need-enum-known-q
 enum-known-q c = search
@@ -31,7 +31,7 @@ unclosed-requires c κs = search
 returns : tie.Need-returns
 returns c rg _ =
     let read = c .before .before in
-    rw (c .unclosed .ensures) (laws.unclosed (code "`") (tables _ _ _ rg) _ _ tagItem _ (rest-ends _ _ (omega arith)) _ (read .read-quoted .ensures) (not-closed _ (c .before .match .keys2)))
+    rw (c .unclosed .ensures) (laws.unclosed (code "`") (tables _ _ _ rg) _ _ tagItem _ (rest-ends _ _ (omega arith)) _ (read .read-name .ensures) (not-closed _ (c .before .match .keys2)))
 
 base-requires : tie.Need-base-requires
 base-requires c κs = search
@@ -41,7 +41,7 @@ unfolding turn
 returns-2 c rg _ =
     let based = c .before .before .before in
     let at = based .before .before in
-    sym (laws.tag-few _ _ _ rg _ _ _ _ (sym (at .before .before .read-quoted .ensures) ∙ at .q .given .1) (rw (based .base .ensures) at (c .if1 .taken)))
+    sym (laws.tag-few _ _ _ rg _ _ _ _ (sym (at .before .before .read-name .ensures) ∙ at .q .given .1) (rw (based .base .ensures) at (c .if1 .taken)))
 
 top-requires : tie.Need-top-requires
 top-requires c κs = omega arith
@@ -74,7 +74,7 @@ returns-3 c rg h =
     let above = topped .before .before in
     let based = above .before .before .before in
     let at = based .before .before in
-    let closed = sym (at .before .before .read-quoted .ensures) ∙ at .q .given .1 in
+    let closed = sym (at .before .before .read-name .ensures) ∙ at .q .given .1 in
     pushed .push-value .ensures _ rg _ h (omega arith) (laws.closed _ _ _ _ _ closed .1)
     ∙ laws.tag-made _ _ _ rg _ _ _ _ closed (rw (based .base .ensures) at (above .if1 .left)) _ (topped .top .ensures)
 
@@ -83,7 +83,7 @@ tag-item-spec =
     tie.close
     (tie.spec
     add-start
-    read-quoted-requires
+    read-name-requires
     enum-known-q
     unclosed-requires
     returns

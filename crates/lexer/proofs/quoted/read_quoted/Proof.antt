@@ -46,7 +46,7 @@ plain-end-requires c κs = tt
 returns-2 : tie.Need-returns-2 Inv-loop μ-loop
 returns-2 c =
     let turn = c .before .before .before in
-    laws.run-ends _ _ _ (turn .before .loop .inv) (c .before .before .if1 .left) (turn .loop-test .taken) (c .before .plain-end .ensures) (c .if4 .taken)
+    laws.run-ends _ _ _ (turn .before .loop .inv) (c .before .before .if1 .left) (omega arith) (omega arith) (c .before .plain-end .ensures) (c .if4 .taken)
 
 add-next : tie.Need-add-next Inv-loop μ-loop
 add-next c = omega arith
@@ -63,7 +63,7 @@ returns-3 : tie.Need-returns-3 Inv-loop μ-loop
 returns-3 c =
     let mark = c .before .before in
     let turn = mark .before .before .before in
-    laws.run-closes _ _ _ (turn .before .loop .inv) (mark .before .before .if1 .left) (turn .loop-test .taken) (mark .before .plain-end .ensures) (mark .if4 .left) (c .if5 .taken)
+    laws.run-closes _ _ _ (turn .before .loop .inv) (mark .before .before .if1 .left) (omega arith) (omega arith) (mark .before .plain-end .ensures) (mark .if4 .left) (c .if5 .taken)
 
 loop-less-2 : tie.Need-loop-less-2 Inv-loop μ-loop
 loop-less-2 c =
@@ -74,7 +74,7 @@ loop-again-2 : tie.Need-loop-again-2 Inv-loop μ-loop
 loop-again-2 c =
     let mark = c .before .before in
     let turn = mark .before .before .before in
-    laws.run-opens _ _ _ (turn .before .loop .inv) (mark .before .before .if1 .left) (turn .loop-test .taken) (mark .before .plain-end .ensures) (mark .if4 .left) (c .if5 .left)
+    laws.run-opens _ _ _ (turn .before .loop .inv) (mark .before .before .if1 .left) (omega arith) (omega arith) (mark .before .plain-end .ensures) (mark .if4 .left) (c .if5 .left)
 
 returns-4 : tie.Need-returns-4 Inv-loop μ-loop
 returns-4 c = laws.ends _ _ _ (c .before .loop .inv) (c .loop-test .left)
