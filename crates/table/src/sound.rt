@@ -4,7 +4,6 @@ ghost use mathlib.Core.List.{[], _∷_};
 ghost use mathlib.Core.Path.{_≡_};
 ghost use Prim.Native.Nat.{_≤_, _<_};
 ghost use lib.Dec.{eqb, ltb};
-ghost use lib.ListN.{length};
 ghost use Rattle.format.specs.Rows.{consKind, fieldKind, isListKind, isTupleKind, rowsOf, rowRoom};
 ghost use Rattle.format.specs.Sound.{spelled, inSlice, spelledIn, countFits, rootAmong, soundRest, soundRows, soundTable};
 ghost use Rattle.table.specs.Parts.{soundWords, quoteOf, soundText};

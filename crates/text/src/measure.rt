@@ -1,6 +1,6 @@
 //! The rows judged, and how long a plain text is, measured without writing it.
 ghost use mathlib.Core.Path.{_≡_};
-ghost use Prim.Native.Nat.{ℕ, _≤_, _<_};
+ghost use Prim.Native.Nat.{_≤_};
 ghost use lib.Dec.{T, leb};
 ghost use lib.ListN.{length};
 ghost use Rattle.format.specs.Rows.{rowsOf, rowRoom, termAt};

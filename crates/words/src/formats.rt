@@ -4,7 +4,7 @@ ghost use Prim.Native.Nat.{_+_, _*_, _≤_, _<_};
 ghost use lib.ListN.{length};
 ghost use Rattle.format.specs.Rows.{spanOf};
 ghost use Rattle.format.specs.Word.{big, joined, formats, formatIn};
-ghost use Rattle.words.specs.Known.{found, layoutAt};
+ghost use Rattle.words.specs.Known.{found};
 use crate::join::join;
 use format::Offset;
 
