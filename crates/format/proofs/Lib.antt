@@ -6,8 +6,6 @@ pub mod Lists
 pub mod Table
 pub mod SameBytes
 pub mod Classes
--- a run of plain bytes
-pub mod PlainRuns
 -- the bench lines, and our own
 pub mod Bench
 pub mod Bounds

@@ -3,7 +3,6 @@
 -- 'Bytes and items'
 pub mod Byte
 pub mod Lex
-pub mod Plain
 -- 'The machine', and from 'Refusal numbers' the order within each item
 pub mod Machine
 pub mod Term

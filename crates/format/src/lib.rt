@@ -4,7 +4,6 @@ pub mod bound;
 pub mod byte;
 pub mod class;
 pub mod kind;
-pub mod plain;
 pub mod refusal;
 
 // The number of a row in a row table.

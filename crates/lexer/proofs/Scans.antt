@@ -9,8 +9,8 @@ use lib.ListN.{length, drop, getD, drop-of-length-le}
 use lib.Dec.{eqb}
 use borrow.Author.Tests.{eq-eqb, ne-eqb}
 use Rattle.format.specs.Lex.{scan}
-use Rattle.format.specs.Plain.{isMark, plainEnd}
-use Rattle.format.proofs.PlainRuns.{no-quote, no-backslash, is-backslash, along, within, plain, stops}
+use Rattle.scan.specs.Plain.{isMark, plainEnd}
+use Rattle.scan.proofs.Runs.{no-quote, no-backslash, is-backslash, along, within, plain, stops}
 use Rattle.lexer.specs.declared.quoted.Quoted.{Quoted}
 use Rattle.lexer.specs.declared.quoted.Quoted.the-variants.{Closed, Stray, Ended}
 use Rattle.lexer.specs.Quoted.{escapedAfter, scanned, quotedFrom}

@@ -12,7 +12,7 @@ use Rattle.format.specs.Answer.{zeroed, rowsIn}
 use Rattle.format.proofs.Decoded.{rows-back, words-length}
 use Rattle.format.proofs.TableRows.{length-rows}
 use Rattle.table.specs.Words.{storedRows, clearedFrom}
-use Rattle.table.proofs.Rows.{stored, words-append}
+use Rattle.table.proofs.Rows.{words-append}
 
 module _ (words : List ℕ) (from : ℕ) where
   pub cleared-part : from ≤ length words → (part : List ℕ) → part ≡ zeroed (midOf from (length words - from) words) → putMid from (length words - from) words part ≡ clearedFrom from words
@@ -45,10 +45,9 @@ cleared-rows words n h =
 -- rows stored after n are found there with those before them, and the table keeps its length
 module _ (words : List ℕ) (n : ℕ) (rows : List Row) (h : n + length rows ≤ rowRoom words) where
   stored-words : storedRows words n rows ≡ wordsOf (rowsOf n words ++ rows) ++ drop (n * rowWords + length (wordsOf rows)) words
-  unfolding rowRoom
+  unfolding rowRoom storedRows
   stored-words =
-      stored words n rows h
-      ∙ sets-eq (wordsOf rows) words (n * rowWords) (omega (arith, words-length rows))
+      sets-eq (wordsOf rows) words (n * rowWords) (omega (arith, words-length rows))
       ∙ rw (words-append (rowsOf n words) rows, words-back n words (omega arith), append-assoc) refl
 
   pub stored-rows : rowsOf (n + length rows) (storedRows words n rows) ≡ rowsOf n words ++ rows
@@ -57,4 +56,5 @@ module _ (words : List ℕ) (n : ℕ) (rows : List Row) (h : n + length rows ≤
       rw (stored-words, ← count) (rows-back (rowsOf n words ++ rows) _)
 
   pub stored-length : length (storedRows words n rows) ≡ length words
-  stored-length = ap length (stored words n rows h) ∙ length-sets words (n * rowWords) (wordsOf rows)
+  unfolding storedRows
+  stored-length = length-sets words (n * rowWords) (wordsOf rows)

@@ -5,10 +5,10 @@ use mathlib.Core.List.{List, [], _∷_, _++_, reverse, append-assoc, reverseAux-
 use native.Mathlib.Nat.{add-zero, add-suc, suc-add, sub-zero, suc-sub-suc, le-refl}
 use native.Mathlib.Omega.{arith}
 use lib.ListN.{length, drop, getD, set, replicate, length-append, length-reverse}
-use lib.Seq.{sets, getD-drop, getD-set-same, getD-set-other}
-use borrow.Author.Tests.{le-leb, lt-leb, lt-ltb, le-ltb}
+use lib.Seq.{getD-drop, getD-set-same, getD-set-other}
+use borrow.Author.Tests.{lt-ltb, le-ltb}
 use Rattle.format.specs.Rows.{Row, row, rowWords, wordsOf, rowsOf, rowRoom, rowAt, fieldRow, add, addTuple}
-use Rattle.table.specs.Words.{rowIn, storedRows, lastFirst, fieldRows, tupleRows}
+use Rattle.table.specs.Words.{rowIn, lastFirst, fieldRows, tupleRows}
 
 abbrev zeros : ℕ → List ℕ
 zeros n = replicate n 0
@@ -25,15 +25,6 @@ module _ (words : List ℕ) (n : ℕ) where
   pub row-outside : rowRoom words ≤ n → rowIn words n ≡ row 0 0 0 0
   unfolding rowIn
   row-outside h = simp (le-ltb _ _ h)
-
-  module _ (rows : List Row) where
-    pub stored : n + length rows ≤ rowRoom words → storedRows words n rows ≡ sets words (n * rowWords) (wordsOf rows)
-    unfolding storedRows
-    stored h = simp (le-leb _ _ h)
-
-    pub not-stored : rowRoom words < n + length rows → storedRows words n rows ≡ words
-    unfolding storedRows
-    not-stored h = simp (lt-leb _ _ h)
 
 pub words-append : (mem rows : List Row) → wordsOf (mem ++ rows) ≡ wordsOf mem ++ wordsOf rows
 unfolding wordsOf

@@ -9,10 +9,10 @@ use native.Mathlib.Omega.{arith}
 use lib.ListN.{length, getD}
 use lib.Seq.{drop-cons, take-length}
 use borrow.Author.Tests.{eq-eqb, ne-eqb}
-use Rattle.format.specs.Plain.{isMark, plainEnd}
+use Rattle.scan.specs.Plain.{isMark, plainEnd}
 use Rattle.format.specs.Rows.{spanOf}
 use Rattle.format.specs.Sound.{spelled, inSlice, spelledIn}
-use Rattle.format.proofs.PlainRuns.{no-quote, no-backslash, is-backslash, along, within, plain, stops}
+use Rattle.scan.proofs.Runs.{no-quote, no-backslash, is-backslash, along, within, plain, stops}
 
 -- the byte after a backslash is judged by itself
 after-backslash : (quote c : ℕ) (r : List ℕ) → spelled quote true (c ∷ r) ≡ (spelled quote true (c ∷ []) && spelled quote false r)

@@ -1,16 +1,14 @@
 -- The rows of a tuple stored one by one: its end, then its fields from the last to the first.
 use Prim.Native.Nat.{ℕ, zero, suc, _+_, _*_, _-_, _≤_, _<_}
-use mathlib.Core.Path.{_≡_, refl, sym, _∙_}
-use mathlib.Core.Bool.{Bool, true, false, _&&_, cond}
+use mathlib.Core.Path.{_≡_, sym, _∙_}
 use mathlib.Core.List.{List, [], _∷_}
 use native.Mathlib.Numerals.{add-one, sub-one}
 use native.Mathlib.Omega.{arith}
 use lib.ListN.{length, getD, length-take}
 use lib.Seq.{sets}
-use borrow.Author.Tests.{le-leb, lt-leb}
-use Rattle.format.specs.Rows.{Row, row, rowWords, wordsOf, rowRoom, endKind, fieldKind, endRow, fieldRow}
-use Rattle.table.specs.Words.{lastFirst, between, fieldRows, tupleRows, storedTuple}
-use Rattle.table.proofs.Rows.{stored, not-stored, length-lastFirst, length-fields}
+use Rattle.format.specs.Rows.{Row, row, rowWords, wordsOf, endKind, fieldKind, endRow, fieldRow}
+use Rattle.table.specs.Words.{lastFirst, between, fieldRows, tupleRows, storedRows}
+use Rattle.table.proofs.Rows.{length-lastFirst, length-fields}
 
 -- a row more in front
 more-rows : (words : List ℕ) (n : ℕ) (r : Row) (rows : List Row)
@@ -50,34 +48,13 @@ length-between : (stack : List ℕ) (base depth : ℕ) → length (between stack
 unfolding between
 length-between stack base depth = simp (length-take, length-lastFirst) (omega arith)
 
-and-false : (b : Bool) → (b && false) ≡ false
-and-false true = refl
-and-false false = refl
-
-cond-same : {A : Type 0} (b : Bool) (x : A) → cond b x x ≡ x
-cond-same true x = refl
-cond-same false x = refl
-
 module _ (words stack : List ℕ) (base depth n : ℕ) where
-  pub tuple-under : depth < base → storedTuple words stack base depth n ≡ words
-  unfolding storedTuple
-  tuple-under h = simp (lt-leb _ _ h)
-
-  pub tuple-past : length stack < depth → storedTuple words stack base depth n ≡ words
-  unfolding storedTuple
-  tuple-past h = simp (lt-leb _ _ h, and-false)
-
   pub length-tuple : length (tupleRows n (between stack base depth)) ≡ suc (depth - base)
   unfolding tupleRows
   length-tuple = simp (length-fields, length-between)
 
-  pub tuple-no-room : rowRoom words ≤ n + (depth - base) → storedTuple words stack base depth n ≡ words
-  unfolding storedTuple
-  tuple-no-room h = simp (not-stored words n (tupleRows n (between stack base depth)) (omega (arith, length-tuple)), cond-same)
-
   -- the table with the end stored, and then with the fields stored after it
-  pub tuple-stored : base ≤ depth → depth ≤ length stack → n + (depth - base) < rowRoom words
-      → {ended filled : List ℕ} → ended ≡ sets words (n * rowWords) (wordsOf (row endKind 0 0 0 ∷ [])) → filled ≡ withFields ended stack base depth n
-      → filled ≡ storedTuple words stack base depth n
-  unfolding storedTuple tupleRows endRow
-  tuple-stored b d h e f = simp (le-leb _ _ b, le-leb _ _ d) (f ∙ rw e (sym (stored words n _ (omega (arith, length-tuple)) ∙ more-rows words n _ _)))
+  pub tuple-stored : {ended filled : List ℕ} → ended ≡ sets words (n * rowWords) (wordsOf (row endKind 0 0 0 ∷ [])) → filled ≡ withFields ended stack base depth n
+      → filled ≡ storedRows words n (tupleRows n (between stack base depth))
+  unfolding storedRows tupleRows endRow
+  tuple-stored e f = f ∙ rw e (sym (more-rows words n _ _))

@@ -1,10 +1,10 @@
 -- The words of tables: rows stored and read in them, and the values of a stack.
 use Prim.Native.Nat.{ℕ, zero, suc, _+_, _*_, _-_}
-use mathlib.Core.Bool.{_&&_, cond}
+use mathlib.Core.Bool.{cond}
 use mathlib.Core.List.{List, [], _∷_, _++_}
 use lib.ListN.{length, take, getD, replicate}
 use lib.Seq.{sets}
-use lib.Dec.{leb, ltb}
+use lib.Dec.{ltb}
 use Rattle.format.specs.Rows.{Row, row, rowWords, wordsOf, rowRoom, endRow, fieldRow}
 use Rattle.table.specs.declared.RowWords.{RowWords}
 
@@ -12,9 +12,9 @@ use Rattle.table.specs.declared.RowWords.{RowWords}
 abbrev pub rowOf : RowWords → Row
 rowOf w = row (w .kind) (w .first) (w .second) (w .third)
 
--- rows stored from row n on, where there is room for all of them
+-- rows stored from row n on
 unfoldable pub storedRows : List ℕ → ℕ → List Row → List ℕ
-storedRows words n rows = cond (leb (n + length rows) (rowRoom words)) (sets words (n * rowWords) (wordsOf rows)) words
+storedRows words n rows = sets words (n * rowWords) (wordsOf rows)
 
 -- row n; zeros past the room
 unfoldable pub rowIn : List ℕ → ℕ → Row
@@ -43,8 +43,3 @@ fieldRows rest (v ∷ vs) = fieldRow v rest ∷ fieldRows (suc rest) vs
 -- `}`: the end, then the fields from the last to the first
 unfoldable pub tupleRows : ℕ → List ℕ → List Row
 tupleRows n values = endRow ∷ fieldRows n values
-
--- the rows of a tuple stored from row n on, where its values lie on the stack
-unfoldable pub storedTuple : List ℕ → List ℕ → ℕ → ℕ → ℕ → List ℕ
-storedTuple words stack base depth n =
-    cond (leb base depth && leb depth (length stack)) (storedRows words n (tupleRows n (between stack base depth))) words

@@ -1,5 +1,4 @@
 //! The row table and the other tables of words: a row stored and read, the rows of a tuple, a table cleared.
-//! A row past the table's room is not stored, and reads as zeros.
 ghost use mathlib.Core.Path.{_≡_};
 ghost use mathlib.Core.List.{[], _∷_};
 ghost use Prim.Native.Nat.{_+_, _*_, _-_, _≤_, _<_};
@@ -7,7 +6,7 @@ ghost use lib.ListN.{length};
 ghost use lib.Seq.{sets};
 ghost use Rattle.format.specs.Answer.{zeroed};
 ghost use Rattle.format.specs.Rows.{rowWords, wordsOf, rowRoom};
-ghost use Rattle.table.specs.Words.{rowOf, rowIn, storedRows, between, fieldRows, storedTuple, clearedFrom};
+ghost use Rattle.table.specs.Words.{rowOf, rowIn, storedRows, between, fieldRows, tupleRows, clearedFrom};
 use format::Depth;
 use format::ROW_WORDS;
 use format::Row;
@@ -53,18 +52,16 @@ fn put(rows: &mut [u32], at: usize, words: RowWords)
     rows[at + 3] = words.third;
 }
 
-// Stores row n.
+// Stores row n, which the table has room for.
 pub fn store_row(rows: &mut [u32], n: Row, words: RowWords)
+    requires { ⌜ n .0 < rowRoom (now rows) ⌝ }
     ensures { λ r. ⌜ now (rows .exit) ≡ storedRows (now (rows .entry)) (n .0) (rowOf words ∷ []) ⌝ }
 {
-    let i = n.0 as usize;
-    if i < row_room(rows) {
-        put(rows, i * ROW_WORDS, words);
-    }
+    put(rows, (n.0 as usize) * ROW_WORDS, words);
 }
 
 // Reads row n, which the table has room for.
-fn read_row(rows: &[u32], n: Row) -> RowWords
+pub fn read_row(rows: &[u32], n: Row) -> RowWords
     requires { ⌜ n .0 < rowRoom (now rows) ⌝ }
     ensures { λ r. ⌜ rowOf r ≡ rowIn (now (rows .entry)) (n .0) ⌝ }
 {
@@ -77,7 +74,7 @@ fn read_row(rows: &[u32], n: Row) -> RowWords
     }
 }
 
-// Reads row n.
+// Reads row n. One past the table's room reads as zeros.
 pub fn load_row(rows: &[u32], n: Row) -> RowWords
     ensures { λ r. ⌜ rowOf r ≡ rowIn (now (rows .entry)) (n .0) ⌝ }
 {
@@ -119,26 +116,14 @@ fn put_fields(rows: &mut [u32], stack: &[u32], base: Depth, depth: Depth, end: R
     }
 }
 
-// Stores the rows of a tuple of the stack's values above `base` and up to `depth`: its end as row `next`, then its fields.
-// Nothing is stored where they are no values of the stack, or where there is no room for all of its rows.
+// Stores the rows of a tuple of the stack's values above `base` and up to `depth`, for all of which the table has room: its end as row `next`, then its fields.
 pub fn store_tuple(rows: &mut [u32], stack: &[u32], base: Depth, depth: Depth, next: Row)
-    ensures { λ r. ⌜ now (rows .exit) ≡ storedTuple (now (rows .entry)) (now (stack .entry)) (base .0) (depth .0) (next .0) ⌝ }
+    requires { ⌜ (base .0 ≤ depth .0) × (depth .0 ≤ length (now stack)) × (next .0 + 1 + (depth .0 - base .0) ≤ rowRoom (now rows)) ⌝ }
+    ensures { λ r. ⌜ now (rows .exit) ≡ storedRows (now (rows .entry)) (next .0) (tupleRows (next .0) (between (now (stack .entry)) (base .0) (depth .0))) ⌝ }
 {
-    let low = base.0;
-    let high = depth.0;
-    let i = next.0 as usize;
-    if high < low {
-        return;
-    }
-    if stack.len() < high {
-        return;
-    }
-    if row_room(rows) <= i + (high - low) {
-        return;
-    }
     put(
         rows,
-        i * ROW_WORDS,
+        (next.0 as usize) * ROW_WORDS,
         RowWords {
             kind: kind::END,
             first: 0,

@@ -11,11 +11,9 @@ ghost use Rattle.table.specs.Words.{rowOf, rowIn};
 use crate::RowWords;
 use crate::read_row;
 use crate::row_room;
-use format::ROW_WORDS;
 use format::Row;
 use format::byte;
 use format::kind;
-use format::plain;
 
 // Whether a span lies inside the slice. Its end is counted in 64 bits, where no sum of two words wraps.
 fn in_slice(message: &[u8], start: u32, n: u32) -> bool
@@ -40,7 +38,7 @@ fn is_spelled(text: &[u8], quote: u8) -> bool
 {
     let mut i = 0;
     while i < text.len() {
-        let p = plain::plain_end_by_blocks(text, i, text.len(), quote);
+        let p = scan::plain_end_by_blocks(text, i, text.len(), quote);
         if text.len() <= p {
             return true;
         }
@@ -187,23 +185,15 @@ pub fn sound_rest(kind: u32, rest: u32) -> bool
     }
 }
 
-// The kind of row n, which the table has room for.
-fn kind_of(rows: &[u32], n: u32) -> u32
-    requires { ⌜ n < rowRoom (now rows) ⌝ }
-    ensures { λ r. ⌜ r ≡ rowIn (now (rows .entry)) n .kind ⌝ }
-{
-    rows[(n as usize) * ROW_WORDS]
-}
-
 // Whether a row may have the rest that it refers to. The rest is read only of a list cell or a tuple's field: its row is then there.
-fn rest_fits(rows: &[u32], words: RowWords) -> bool
+pub fn rest_fits(rows: &[u32], words: RowWords) -> bool
     requires { ⌜ (words .kind ≡ consKind → words .second < rowRoom (now rows)) × (words .kind ≡ fieldKind → words .second < rowRoom (now rows)) ⌝ }
     ensures { λ r. ⌜ r ≡ soundRest (words .kind) (rowIn (now (rows .entry)) (words .second) .kind) ⌝ }
 {
     let k = words.kind;
     match k {
-        kind::CONS => sound_rest(k, kind_of(rows, words.second)),
-        kind::FIELD => sound_rest(k, kind_of(rows, words.second)),
+        kind::CONS => sound_rest(k, read_row(rows, Row(words.second)).kind),
+        kind::FIELD => sound_rest(k, read_row(rows, Row(words.second)).kind),
         _ => true,
     }
 }

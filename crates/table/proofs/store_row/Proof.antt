@@ -1,17 +1,13 @@
--- `table::store_row` meets its contract: the row is stored where it has room, and else nothing.
-use mathlib.Core.Path.{_∙_, sym}
+-- `table::store_row` meets its contract: a row that has room lies within the table.
 use native.Mathlib.Omega.{arith}
 use borrow.Author.Needs.{needs}
 use Rattle.format.specs.Rows.{rowRoom}
-use Rattle.table.proofs.Rows.{stored, not-stored}
+use Rattle.table.specs.Words.{storedRows}
 use Rattle.table.proofs.store_row.Statement.{statement}
 use Rattle.table.proofs.store_row.Tie as tie
 
-cast-i : tie.Need-cast-i
-cast-i c = search needs
-
-row-room-requires : tie.Need-row-room-requires
-row-room-requires c κs = search needs
+cast-put : tie.Need-cast-put
+cast-put c = search needs
 
 mul-put : tie.Need-mul-put
 mul-put c = search needs
@@ -24,23 +20,8 @@ same-length : tie.Need-same-length
 same-length c = search needs
 
 returns : tie.Need-returns
-returns c = c .before .before .put .ensures ∙ sym (stored _ _ _ (omega arith))
-
-same-length-2 : tie.Need-same-length-2
-same-length-2 c = search needs
-
-returns-2 : tie.Need-returns-2
-returns-2 c = sym (not-stored _ _ _ (omega arith))
+unfolding storedRows
+returns c = c .before .before .put .ensures
 
 pub store-row-spec : {M : Type 1} → statement M
-store-row-spec =
-    tie.close
-    (tie.spec
-    cast-i
-    row-room-requires
-    mul-put
-    put-requires
-    same-length
-    returns
-    same-length-2
-    returns-2)
+store-row-spec = tie.close (tie.spec cast-put mul-put put-requires same-length returns)

@@ -2,7 +2,7 @@
 use mathlib.Core.Path.{refl}
 use native.Mathlib.Omega.{arith}
 use borrow.Author.Needs.{needs}
-use Rattle.format.proofs.PlainRuns.{not-before}
+use Rattle.scan.proofs.Runs.{not-before}
 use Rattle.lexer.proofs.Scans as laws
 use Rattle.lexer.proofs.quoted.read_name.Statement.{statement}
 use Rattle.lexer.proofs.quoted.read_name.Tie as tie

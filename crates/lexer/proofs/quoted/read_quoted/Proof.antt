@@ -2,8 +2,9 @@
 use Prim.Native.Nat.{_-_}
 use mathlib.Core.Logic.{⊎-elim}
 use native.Mathlib.Omega.{arith}
+use borrow.Author.Needs.{needs}
 use lib.ListN.{length}
-use Rattle.format.proofs.PlainRuns.{not-before}
+use Rattle.scan.proofs.Runs.{not-before}
 use Rattle.lexer.proofs.Scans as laws
 use Rattle.lexer.proofs.quoted.read_quoted.Statement.{statement}
 use Rattle.lexer.proofs.quoted.read_quoted.Tie as tie
@@ -41,7 +42,7 @@ loop-again c =
     (c .if2 .came)
 
 plain-end-requires : tie.Need-plain-end-requires Inv-loop μ-loop
-plain-end-requires c κs = tt
+plain-end-requires c κs = search needs
 
 returns-2 : tie.Need-returns-2 Inv-loop μ-loop
 returns-2 c =

@@ -3,10 +3,11 @@ use Prim.Native.Nat.{_-_}
 use mathlib.Core.Path.{_≡_, sym, _∙_}
 use mathlib.Core.Bool.{false}
 use native.Mathlib.Omega.{arith}
+use borrow.Author.Needs.{needs}
 use lib.ListN.{length}
 use borrow.Author.Tests.{not-true, not-false}
 use Rattle.format.specs.Sound.{spelled}
-use Rattle.format.proofs.PlainRuns.{not-before}
+use Rattle.scan.proofs.Runs.{not-before}
 use Rattle.table.proofs.Spelled as laws
 use Rattle.table.proofs.sound.is_spelled.Statement.{statement}
 use Rattle.table.proofs.sound.is_spelled.Tie as tie
@@ -21,7 +22,7 @@ loop-holds : tie.Need-loop-holds Inv-loop μ-loop
 loop-holds c = laws.begins _ _
 
 plain-end-by-blocks-requires : tie.Need-plain-end-by-blocks-requires Inv-loop μ-loop
-plain-end-by-blocks-requires c κs = tt
+plain-end-by-blocks-requires c κs = search needs
 
 returns : tie.Need-returns Inv-loop μ-loop
 returns c =

@@ -1,8 +1,8 @@
--- `format::plain::mark` meets its contract: its two tests are the definition's.
-use Rattle.format.specs.Plain.{markCount}
-use Rattle.format.proofs.PlainRuns.{quote-is-mark, backslash-is-mark, no-mark}
-use Rattle.format.proofs.plain.mark.Statement.{statement}
-use Rattle.format.proofs.plain.mark.Tie as tie
+-- `scan::mark` meets its contract: its two tests are the definition's.
+use Rattle.scan.specs.Plain.{markCount}
+use Rattle.scan.proofs.Runs.{quote-is-mark, backslash-is-mark, no-mark}
+use Rattle.scan.proofs.mark.Statement.{statement}
+use Rattle.scan.proofs.mark.Tie as tie
 
 returns : tie.Need-returns
 unfolding markCount

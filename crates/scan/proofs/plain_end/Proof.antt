@@ -1,21 +1,18 @@
--- `format::plain::plain_end` meets its contract: the runs passed, one after another, end at a mark or at `end`.
+-- `scan::plain_end` meets its contract: the runs passed, one after another, end at a mark or at `end`.
 use native.Mathlib.Omega.{arith}
 use borrow.Author.Needs.{needs}
-use Rattle.format.proofs.PlainRuns as laws
-use Rattle.format.proofs.plain.plain_end.Statement.{statement}
-use Rattle.format.proofs.plain.plain_end.Tie as tie
+use Rattle.scan.proofs.Runs as laws
+use Rattle.scan.proofs.plain_end.Statement.{statement}
+use Rattle.scan.proofs.plain_end.Tie as tie
 
-returns : tie.Need-returns
-returns c = laws.no-slice _ _ _ _ (c .if1 .taken)
-
-returns-2 : tie.Need-returns-2
-returns-2 c = laws.no-bytes _ _ _ _ (c .before .if1 .left) (c .if2 .taken)
+sub-if1 : tie.Need-sub-if1
+sub-if1 c = search needs
 
 plain-until-requires : tie.Need-plain-until-requires
 plain-until-requires c κs = search needs
 
-returns-3 : tie.Need-returns-3
-returns-3 c =
+returns : tie.Need-returns
+returns c =
     let run = c .plain-until .ensures in
     laws.ends _ _ _ _ (omega arith) (omega arith) (run .0) (run .1) (run .2)
 
@@ -25,16 +22,16 @@ add-soon c = search needs
 plain-until-requires-2 : tie.Need-plain-until-requires-2
 plain-until-requires-2 c κs = search needs
 
-returns-4 : tie.Need-returns-4
-returns-4 c =
+returns-2 : tie.Need-returns-2
+returns-2 c =
     let run = c .before .plain-until2 .ensures in
-    laws.ends _ _ _ _ (omega arith) (omega arith) (run .0) (omega arith) (λ _. run .2 (c .if4 .taken))
+    laws.ends _ _ _ _ (omega arith) (omega arith) (run .0) (omega arith) (λ _. run .2 (c .if2 .taken))
 
 plain-end-by-blocks-requires : tie.Need-plain-end-by-blocks-requires
 plain-end-by-blocks-requires c κs = search needs
 
-returns-5 : tie.Need-returns-5
-returns-5 c =
+returns-3 : tie.Need-returns-3
+returns-3 c =
     let first = c .before .before .plain-until2 .ensures in
     laws.after-run _ _ _ _ (omega arith) (first .0) (omega (arith, first .1)) (c .plain-end-by-blocks .ensures)
 
@@ -42,12 +39,11 @@ pub plain-end-spec : {M : Type 1} → statement M
 plain-end-spec =
     tie.close
     (tie.spec
-    returns
-    returns-2
+    sub-if1
     plain-until-requires
-    returns-3
+    returns
     add-soon
     plain-until-requires-2
-    returns-4
+    returns-2
     plain-end-by-blocks-requires
-    returns-5)
+    returns-3)

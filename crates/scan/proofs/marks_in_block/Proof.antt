@@ -1,11 +1,11 @@
--- `format::plain::marks_in_block` meets its contract: while no mark is counted, the bytes looked at are plain.
+-- `scan::marks_in_block` meets its contract: while no mark is counted, the bytes looked at are plain.
 use Prim.Native.Nat.{_+_, _-_, _≤_}
 use mathlib.Core.Path.{_≡_}
 use native.Mathlib.Omega.{arith}
-use Rattle.format.specs.Plain.{Plain}
-use Rattle.format.proofs.PlainRuns as laws
-use Rattle.format.proofs.plain.marks_in_block.Statement.{statement}
-use Rattle.format.proofs.plain.marks_in_block.Tie as tie
+use Rattle.scan.specs.Plain.{Plain}
+use Rattle.scan.proofs.Runs as laws
+use Rattle.scan.proofs.marks_in_block.Statement.{statement}
+use Rattle.scan.proofs.marks_in_block.Tie as tie
 
 abbrev Inv-loop : tie.InvT-loop
 Inv-loop message from quote count₀ i₀ count i = (i ≤ 48) × (count ≤ i) × (count ≡ 0 → Plain quote message from (from + i))

@@ -1,10 +1,10 @@
--- `format::plain::plain_until` meets its contract: the bytes passed are plain.
+-- `scan::plain_until` meets its contract: the bytes passed are plain.
 use Prim.Native.Nat.{_-_, _≤_}
 use native.Mathlib.Omega.{arith}
-use Rattle.format.specs.Plain.{Plain}
-use Rattle.format.proofs.PlainRuns as laws
-use Rattle.format.proofs.plain.plain_until.Statement.{statement}
-use Rattle.format.proofs.plain.plain_until.Tie as tie
+use Rattle.scan.specs.Plain.{Plain}
+use Rattle.scan.proofs.Runs as laws
+use Rattle.scan.proofs.plain_until.Statement.{statement}
+use Rattle.scan.proofs.plain_until.Tie as tie
 
 abbrev Inv-loop : tie.InvT-loop
 Inv-loop message from end quote i₀ i = Plain quote message from i × (i ≤ end)

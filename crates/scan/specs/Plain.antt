@@ -4,8 +4,8 @@ use Prim.Native.Char.{code}
 use mathlib.Core.Path.{_≡_}
 use mathlib.Core.Bool.{Bool, true, false, _||_, cond}
 use mathlib.Core.List.{List, [], _∷_}
-use lib.ListN.{length, take, drop, getD}
-use lib.Dec.{eqb, leb}
+use lib.ListN.{take, drop, getD}
+use lib.Dec.{eqb}
 
 -- whether a byte is the quote or a backslash
 unfoldable pub isMark : ℕ → ℕ → Bool
@@ -16,9 +16,9 @@ unfoldable pub plainCount : ℕ → List ℕ → ℕ
 plainCount quote [] = 0
 plainCount quote (b ∷ r) = elim (isMark quote b) [ true ↦ 0 | false ↦ suc (plainCount quote r) ]
 
--- the place of the first mark from `from` on and before `end`, or `end`; `from` itself where the slice has no such bytes
+-- the place of the first mark from `from` on and before `end`, or `end`
 unfoldable pub plainEnd : ℕ → List ℕ → ℕ → ℕ → ℕ
-plainEnd quote message from end = from + cond (leb end (length message)) (plainCount quote (take (end - from) (drop from message))) 0
+plainEnd quote message from end = from + plainCount quote (take (end - from) (drop from message))
 
 -- what a byte adds to a count of marks
 unfoldable pub markCount : ℕ → ℕ → ℕ

@@ -4,8 +4,8 @@ ghost use mathlib.Core.Bool.{true};
 ghost use mathlib.Core.Path.{_≡_};
 ghost use Prim.Native.Nat.{_+_, _≤_, _<_};
 ghost use lib.ListN.{length, getD};
-ghost use Rattle.format.specs.Plain.{isMark, markCount, plainEnd, Plain};
-use crate::byte;
+ghost use Rattle.scan.specs.Plain.{isMark, markCount, plainEnd, Plain};
+use format::byte;
 
 // Bytes of a block. Of 16 or 32 the compiler would look at one byte after the other.
 const BLOCK: usize = 48;
@@ -75,30 +75,19 @@ fn plain_until(message: &[u8], from: usize, end: usize, quote: u8) -> usize
     i
 }
 
-// The first place from `from` on and before `end` at which the quote or a backslash stands, or `end`; `from` itself where the
-// message has no such bytes. It looks at blocks from the first byte on.
+// The first place from `from` on and before `end` at which the quote or a backslash stands, or `end`. It looks at blocks from the first byte on.
 pub fn plain_end_by_blocks(message: &[u8], from: usize, end: usize, quote: u8) -> usize
+    requires { ⌜ (from ≤ end) × (end ≤ length (now message)) ⌝ }
     ensures { λ r. ⌜ r ≡ plainEnd quote (now (message .entry)) from end ⌝ }
 {
-    if message.len() < end {
-        return from;
-    }
-    if end < from {
-        return from;
-    }
     plain_until(message, plain_blocks(message, from, end, quote), end, quote)
 }
 
 // The same for texts of which most are short: it looks at some bytes one by one before it looks at blocks.
 pub fn plain_end(message: &[u8], from: usize, end: usize, quote: u8) -> usize
+    requires { ⌜ (from ≤ end) × (end ≤ length (now message)) ⌝ }
     ensures { λ r. ⌜ r ≡ plainEnd quote (now (message .entry)) from end ⌝ }
 {
-    if message.len() < end {
-        return from;
-    }
-    if end < from {
-        return from;
-    }
     if end - from <= SHORT {
         return plain_until(message, from, end, quote);
     }

@@ -8,10 +8,10 @@ use native.Mathlib.Omega.{arith}
 use lib.ListN.{length, drop, getD}
 use lib.Seq.{getD-take, getD-drop}
 use lib.Dec.{eqb, ltb}
-use borrow.Author.Tests.{eq-eqb, ne-eqb, eqb-true, ltb-true, ltb-false, le-leb, lt-leb}
-use Rattle.format.specs.Plain.{isMark, plainCount, markCount, plainEnd, Plain}
+use borrow.Author.Tests.{eq-eqb, ne-eqb, eqb-true, ltb-true, ltb-false}
+use Rattle.scan.specs.Plain.{isMark, plainCount, markCount, plainEnd, Plain}
 use Rattle.format.specs.Rows.{spanOf}
 use Rattle.format.proofs.Lists.{length-span}
 
 -- a mark by its two tests
 module _ (quote b : ℕ) where
@@ -134,7 +134,7 @@ module _ (quote : ℕ) where
 
       by-count : plainEnd quote message from end ≡ from + plainCount quote bytes
       unfolding plainEnd
-      by-count = rw (le-leb _ _ inside)
+      by-count = refl
 
       -- where a run comes to a mark or to `end`
       pub ends : {r : ℕ} → Plain quote message from r → r ≤ end → (r < end → isMark quote (getD message r 0) ≡ true) → r ≡ plainEnd quote message from end
@@ -169,15 +169,6 @@ module _ (quote : ℕ) where
           rw by-count (sym (mark-at (plainCount quote bytes) m) ∙ counted bytes .stops (omega (arith, bytes-length)))
 
   module _ (message : List ℕ) (from end : ℕ) where
-    -- no bytes to look at
-    pub no-slice : length message < end → from ≡ plainEnd quote message from end
-    unfolding plainEnd
-    no-slice h = rw (lt-leb _ _ h) (omega arith)
-
-    pub no-bytes : end ≤ length message → end < from → from ≡ plainEnd quote message from end
-    unfolding plainEnd plainCount
-    no-bytes l h = let z : end - from ≡ 0 = omega arith in rw (le-leb _ _ l, z) (omega arith)
-
     -- a plain run passed before
     pub after-run : end ≤ length message → {i r : ℕ} → Plain quote message from i → i ≤ end → r ≡ plainEnd quote message i end → r ≡ plainEnd quote message from end
     after-run l {i} {r} p h e =

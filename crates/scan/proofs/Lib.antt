@@ -1,0 +1,2 @@
+-- Laws of runs of plain bytes.
+pub mod Runs

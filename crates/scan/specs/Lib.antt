@@ -1,0 +1,2 @@
+-- Runs of plain bytes in quoted text.
+pub mod Plain
