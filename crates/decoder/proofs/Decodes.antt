@@ -10,14 +10,14 @@ use Rattle.format.specs.Bound.{messageBound, registerWords}
 use Rattle.format.specs.Machine as M
 use Rattle.format.specs.Machine.{Outcome, Result, refused, accepted}
 use Rattle.format.specs.Rows.{rowWords, rowValues, wordsOf}
-use Rattle.format.specs.Answer.{Tables, overBound, zeroed, limitsOf, rowsIn, cleared, decodeResult, decodeAnswer, SameLengths}
+use Rattle.format.specs.Answer.{Tables, overBound, zeroed, limitsOf, rowsIn, cleared, decodeResult, decodeAnswer, SameLengths, tables}
 use Rattle.format.specs.declared.Offset.{Offset}
 use Rattle.format.specs.declared.Row.{Row as RowNumber}
 use Rattle.table.specs.Words.{clearedFrom}
 use Rattle.decoder.specs.declared.Decoded.{Decoded}
 use Rattle.decoder.specs.declared.Decoded.the-variants.{Accepted, Refused}
-use Rattle.decoder.specs.Answers.{tables, decodedAs}
-use Rattle.decoder.specs.Held.{Left, leftAs, leftBy, settled}
+use Rattle.decoder.specs.Answers.{decodedAs}
+use Rattle.decoder.specs.Run.{Left, leftAs, leftBy, settled}
 
 module _ (message : List ℕ) (t : Tables) where
   -- before reading starts

@@ -18,9 +18,10 @@ use Rattle.table.specs.Words.{clearedFrom}
 use Rattle.table.proofs.Cleared.{cleared-rows}
 use Rattle.lexer.proofs.Bytes.{byte-at}
 use Rattle.decoder.specs.declared.Decoded.the-variants as Decoded
-use Rattle.decoder.specs.declared.state.State.{State}
-use Rattle.decoder.specs.declared.state.Answer.the-variants.{More, Done, Refused}
-use Rattle.decoder.specs.Held.{machineOf, turn, taken, leftAs, leftBy}
+use Rattle.items.specs.declared.state.State.{State}
+use Rattle.items.specs.declared.state.Answer.the-variants.{More, Done, Refused}
+use Rattle.items.specs.Held.{machineOf, turn, taken}
+use Rattle.decoder.specs.Run.{leftAs, leftBy}
 use Rattle.decoder.proofs.Turns.{Before, refuses, accepts, goes-after, startState, start-machine, start-before}
 
 -- before an item, in a run that began with the tables t₀: the run from here is the whole run

@@ -1,14 +1,8 @@
 -- The paper's numbers for each case of what `decode` answers.
-use Prim.Native.Nat.{ℕ}
-use mathlib.Core.List.{List}
 use Rattle.format.specs.Answer as A
 use Rattle.format.specs.Answer.{Tables, decodeRefusal}
 use Rattle.decoder.specs.declared.Decoded.{Decoded}
 use Rattle.decoder.specs.declared.Decoded.the-variants.{Accepted, Refused}
-
--- the four tables
-abbrev pub tables : List ℕ → List ℕ → List ℕ → List ℕ → Tables
-tables rows stack marks registers = record { rows = rows; stack = stack; marks = marks; registers = registers }
 
 -- 0, bytes consumed, root, rows used; or number, place, 0, 0; with the tables at the end
 unfoldable pub decodedAs : Decoded → Tables → A.Decoded

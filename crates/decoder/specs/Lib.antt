@@ -1,5 +1,3 @@
--- `Answers` gives the paper's numbers for what `decode` answers. The rest is for the functions inside: the machine of format's
--- definitions as the tables and the state hold it, so that each of them promises the machine's own step.
+-- `Answers` gives the paper's numbers for what `decode` answers; `Run` is for the functions inside.
 pub mod Answers
-pub mod Held
-pub mod Readers
+pub mod Run

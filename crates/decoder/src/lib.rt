@@ -1,22 +1,14 @@
 //! The decoder: from a message's bytes to a row table, in lent memory alone.
 ghost use mathlib.Core.Path.{_≡_};
-ghost use Rattle.format.specs.Answer.{decodeAnswer};
-ghost use Rattle.decoder.specs.Answers.{decodedAs, tables};
+ghost use Rattle.format.specs.Answer.{decodeAnswer, tables};
+ghost use Rattle.decoder.specs.Answers.{decodedAs};
 use format::Offset;
 use format::Row;
 use format::bound;
 use format::refusal;
 
-mod binary;
-mod list;
-mod number;
-mod register;
 mod run;
 mod settle;
-mod state;
-mod text;
-mod tuple;
-mod value;
 
 // Bytes consumed, root row and rows used; or a refusal's number and place.
 pub enum Decoded {

@@ -1,26 +1,16 @@
 //! The machine's step, which dispatches on the class of an item's first byte, and the run.
-ghost use mathlib.Core.List.{List};
 ghost use mathlib.Core.Path.{_≡_};
-ghost use Prim.Native.Nat.{ℕ, _+_, _≤_, _<_};
+ghost use Prim.Native.Nat.{_+_, _≤_, _<_};
 ghost use lib.ListN.{length, drop, getD};
-ghost use Rattle.format.specs.Answer.{Tables, limitsOf, zeroed};
+ghost use Rattle.format.specs.Answer.{limitsOf, zeroed, tables};
 ghost use Rattle.format.specs.Bound.{messageBound, registerWords};
 ghost use Rattle.format.specs.Byte.{classOf, classCode};
-ghost use Rattle.format.specs.Lex.{whiteItem, endItem, lex};
+ghost use Rattle.format.specs.Lex.{lex};
 ghost use Rattle.format.specs.Machine as M;
 ghost use Rattle.format.specs.Rows.{rowValues};
-ghost use Rattle.decoder.specs.Answers.{tables};
-ghost use Rattle.decoder.specs.Held.{Ready, turn, taken, leftAs, leftBy};
+ghost use Rattle.items.specs.Held.{Ready, turn, taken};
+ghost use Rattle.decoder.specs.Run.{leftAs, leftBy};
 use crate::Decoded;
-use crate::binary;
-use crate::list;
-use crate::number;
-use crate::register;
-use crate::state;
-use crate::state::Answer;
-use crate::state::State;
-use crate::text;
-use crate::tuple;
 use format::Depth;
 use format::Offset;
 use format::Row;
@@ -28,37 +18,16 @@ use format::byte;
 use format::class;
 use format::kind;
 use format::refusal;
-
-// White space: nothing but the place changes.
-fn white_item(s: State) -> Answer
-    requires { ⌜ s .at .0 < messageBound ⌝ }
-    ensures { λ r. ⌜ ((t : Tables) (rest : List ℕ) → Ready t s → turn r t ≡ taken t s rest whiteItem) ⌝ }
-{
-    let next = s.next;
-    let depth = s.depth;
-    Answer::More(State {
-        at: Offset(s.at.0 + 1),
-        next,
-        depth,
-        marks: s.marks,
-    })
-}
-
-// `$`: the one value, with no mark noted.
-fn end_item(stack: &[u32], s: State) -> Answer
-    requires { ⌜ s .depth .0 ≤ length (now stack) ⌝ }
-    ensures { λ r. ⌜ ((rows marks registers rest : List ℕ) → turn r (tables rows (now (stack .entry)) marks registers) ≡ taken (tables rows (now (stack .entry)) marks registers) s rest endItem) ⌝ }
-{
-    let at = s.at;
-    let depth = s.depth;
-    if s.marks != 0 {
-        return Answer::Refused(refusal::UNBALANCED, at);
-    }
-    if depth.0 != 1 {
-        return Answer::Refused(refusal::DEPTH, at);
-    }
-    Answer::Done(state::top(stack, depth))
-}
+use items::binary;
+use items::end;
+use items::list;
+use items::number;
+use items::register;
+use items::state::Answer;
+use items::state::State;
+use items::text;
+use items::tuple;
+use items::white;
 
 // One item, whose first byte is b. `classes` is the class table.
 fn step(
@@ -80,7 +49,7 @@ fn step(
     let i = b as usize;
     let k = classes[i];
     match k {
-        class::WHITE => white_item(s),
+        class::WHITE => white::white_item(s),
         class::DIGIT | class::MINUS => number::integer_item(message, rows, stack, s, b),
         class::ATOM_QUOTE => text::quoted_item(
             message,
@@ -100,7 +69,7 @@ fn step(
         class::TILDE => binary::binary_item(message, rows, stack, marks, s),
         class::HASH => list::nil_item(rows, stack, s),
         class::AMPERSAND => list::cons_item(rows, stack, marks, s),
-        class::DOLLAR => end_item(stack, s),
+        class::DOLLAR => end::end_item(stack, s),
         class::GREATER => register::store_item(message, stack, marks, registers, s),
         class::REGISTER => register::push_item(stack, registers, s, b),
         _ => Answer::Refused(refusal::STRAY, at),

@@ -1,7 +1,7 @@
 //! The tables after a run.
 ghost use mathlib.Core.Path.{_≡_};
-ghost use Rattle.decoder.specs.Answers.{tables};
-ghost use Rattle.decoder.specs.Held.{settled};
+ghost use Rattle.format.specs.Answer.{tables};
+ghost use Rattle.decoder.specs.Run.{settled};
 use crate::Decoded;
 use format::ROW_WORDS;
 

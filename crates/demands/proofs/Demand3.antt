@@ -13,7 +13,7 @@ use Rattle.format.specs.Sound.{soundTable}
 use Rattle.format.specs.Term.{Term}
 use Rattle.format.specs.Text.{plain}
 use Rattle.format.specs.Answer as A
-use Rattle.format.specs.Answer.{Tables, SameLengths, zeroed, cleared, decodeRefusal, decodeResult, decodeAnswer, compareRefusal, compareAnswer}
+use Rattle.format.specs.Answer.{Tables, SameLengths, zeroed, cleared, decodeRefusal, decodeResult, decodeAnswer, compareRefusal, compareAnswer, tables}
 use Rattle.format.specs.declared.Offset.{Offset}
 use Rattle.format.specs.declared.Row.{Row}
 use Rattle.format.proofs.Decoded.{accepts}
@@ -22,7 +22,7 @@ use Rattle.format.proofs.Tests.{true-of}
 use Rattle.format.proofs.Unchanged.{same-limits}
 use Rattle.decoder.specs.declared.Decoded.{Decoded}
 use Rattle.decoder.specs.declared.Decoded.the-variants.{Accepted, Refused}
-use Rattle.decoder.specs.Answers.{decodedAs, tables}
+use Rattle.decoder.specs.Answers.{decodedAs}
 use Rattle.comparison.specs.Answers.{comparedAs}
 use Rattle.comparison.specs.declared.Compared.{Compared}
 use Rattle.comparison.specs.declared.Compared.the-variants as C

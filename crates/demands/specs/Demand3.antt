@@ -12,9 +12,9 @@ use Rattle.format.specs.Machine.{Outcome, Result, refused, accepted}
 use Rattle.format.specs.Meaning.{termValues, messageTerm}
 use Rattle.format.specs.Term.{Term}
 use Rattle.format.specs.Text.{plain}
-use Rattle.format.specs.Answer.{Tables, zeroed, decodeAnswer, compareAnswer}
+use Rattle.format.specs.Answer.{Tables, zeroed, decodeAnswer, compareAnswer, tables}
 use Rattle.format.specs.declared.Row.{Row}
-use Rattle.decoder.specs.Answers.{decodedAs, tables}
+use Rattle.decoder.specs.Answers.{decodedAs}
 use Rattle.decoder.specs.declared.Decoded.the-variants.{Accepted}
 use Rattle.comparison.specs.Answers.{comparedAs}
 use Rattle.comparison.specs.declared.Compared.{Compared}

@@ -30,6 +30,9 @@ pub record Tables : Type 0 where
   pub marks : List ℕ
   pub registers : List ℕ
 
+abbrev pub tables : List ℕ → List ℕ → List ℕ → List ℕ → Tables
+tables rows stack marks registers = record { rows = rows; stack = stack; marks = marks; registers = registers }
+
 -- tables of the same lengths
 pub record SameLengths (t t′ : Tables) : Type 0 where
   pub rows : length (t .rows) ≡ length (t′ .rows)

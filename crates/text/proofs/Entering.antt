@@ -14,7 +14,7 @@ use Rattle.format.specs.Rows.{Row, rowAt, rowsOf, rowRoom, consKind, fieldKind}
 use Rattle.format.specs.Sound.{soundRows}
 use Rattle.table.specs.Words.{lastFirst, rowIn}
 use Rattle.table.proofs.Rows.{row-of, pushed, length-lastFirst}
-use Rattle.text.specs.Leaves.{isLeafKind, leafBytes, Inside}
+use Rattle.leaves.specs.Leaves.{isLeafKind, leafBytes, Inside}
 use Rattle.text.specs.Walk.{openBytes, firstNamed, pending, coming, Above, Falling, Room, Partly}
 use Rattle.text.proofs.Partly.{part-none, part-then, part-room, put-fits, part-put}
 use Rattle.text.proofs.Frames as F

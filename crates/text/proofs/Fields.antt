@@ -15,7 +15,7 @@ use Rattle.table.specs.Words.{lastFirst, rowIn}
 use Rattle.table.proofs.Rows.{row-of, kept}
 use Rattle.text.specs.declared.walk.After.{After}
 use Rattle.text.specs.declared.walk.After.the-variants.{Into, Done}
-use Rattle.text.specs.Leaves.{isLeafKind, leafBytes, Inside}
+use Rattle.leaves.specs.Leaves.{isLeafKind, leafBytes, Inside}
 use Rattle.text.specs.Walk.{frameRow, frameOn, pending, coming, comingFields, of-field, Above, Room, placeAfter, comingAfter, ReadyAfter, Partly}
 use Rattle.text.proofs.Partly.{part-none, part-then, part-room, put-fits, part-put}
 use Rattle.text.proofs.Frames as F

@@ -19,9 +19,9 @@ use Rattle.format.proofs.Lists.{length-span}
 use Rattle.format.proofs.Sizes.{natural-onto, between-onto, text-onto}
 use Rattle.format.proofs.TableRows as R
 use Rattle.format.proofs.TableRows.{length-rows, judged}
-use Rattle.text.proofs.Leaves.{length-after}
-use Rattle.text.proofs.Lengths.{list-again}
-use Rattle.text.specs.Leaves.{isLeafKind, isSpanKind, quoteOf, countBytes, spanBytes, leafBytes, Inside}
+use Rattle.leaves.proofs.Leaves.{length-after}
+use Rattle.measure.proofs.Lengths.{list-again}
+use Rattle.leaves.specs.Leaves.{isLeafKind, isSpanKind, quoteOf, countBytes, spanBytes, leafBytes, Inside}
 use Rattle.text.specs.Walk.{openBytes, firstNamed, frameRow, frameOn, Frame, of-cell, of-field, of-tag, Above, Falling}
 
 -- no number's text is empty, whatever follows it

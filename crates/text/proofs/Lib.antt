@@ -1,17 +1,5 @@
 -- The laws that the writer's proofs use.
 
--- stores one after another
-pub mod Stores
--- digits one by one
-pub mod Decimals
--- bytes copied part by part, and those of a span
-pub mod Spans
--- the texts of leaves
-pub mod Leaves
--- the lengths of rows' texts
-pub mod Lengths
--- a plain text counted row by row
-pub mod Counts
 -- a text stored part by part
 pub mod Partly
 -- the frames of the walk, and the texts of rows by the rows that they name

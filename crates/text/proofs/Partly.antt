@@ -6,7 +6,7 @@ use native.Mathlib.Omega.{arith}
 use lib.ListN.{length, length-append}
 use lib.Seq.{sets}
 use Rattle.text.specs.Walk.{Partly}
-use Rattle.text.proofs.Stores.{stores}
+use Rattle.leaves.proofs.Stores.{stores}
 
 module _ (output : List ℕ) (at : ℕ) (text : List ℕ) where
   -- nothing yet

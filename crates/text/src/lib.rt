@@ -15,13 +15,6 @@ use format::bound;
 use format::refusal;
 use table::sound;
 
-mod count;
-mod decimal;
-mod leaf;
-mod length;
-mod measure;
-mod row;
-mod span;
 mod store;
 mod walk;
 

@@ -8,13 +8,12 @@ ghost use lib.Seq.{sets};
 ghost use Rattle.format.specs.Rows.{isTupleKind, consKind};
 ghost use Rattle.table.specs.Words.{rowOf, lastFirst, rowIn};
 ghost use Rattle.text.specs.Walk.{openBytes, firstNamed, frameRow, pending, coming, comingFields, Above, Falling, Room, placeAfter, comingAfter, ReadyAfter, placeRest, comingRest, ReadyRest, Partly};
-use crate::leaf;
-use crate::row;
 use format::Offset;
 use format::Row;
 use format::bound;
 use format::byte;
 use format::kind;
+use leaves::leaf;
 use table::RowWords;
 
 // Added to the number of a list cell, in its frame, once its item is begun. Rows used are below the bound.
@@ -87,7 +86,7 @@ pub(crate) fn put_first(
     ensures { λ r. ⌜ at < r .at ⌝ }
 {
     let mut n = row;
-    let mut words = row::read_row(rows, n);
+    let mut words = table::read_row(rows, n);
     let mut frames = depth;
     let mut end = at;
     while !leaf::is_leaf(words.kind) {
@@ -96,7 +95,7 @@ pub(crate) fn put_first(
         let begun = begin(output, end, words);
         n = begun.row;
         end = begun.at;
-        words = row::read_row(rows, n);
+        words = table::read_row(rows, n);
         frames = above;
     }
     Place {
@@ -122,18 +121,18 @@ fn put_fields(
     ensures { λ r. ⌜ Partly (now (output .entry)) at (comingFields (now (message .entry)) (now (rows .entry)) (length (now (stack .entry))) (rest .0) (lastFirst (now (stack .entry)) top)) (now (output .exit)) (placeAfter (now (message .entry)) (now (rows .entry)) (length (now (stack .entry))) r) (comingAfter (now (message .entry)) (now (rows .entry)) (length (now (stack .entry))) r (now (stack .exit)) top) ⌝ }
 {
     let mut n = rest;
-    let mut words = row::read_row(rows, n);
+    let mut words = table::read_row(rows, n);
     let mut end = at;
     while words.kind == kind::FIELD {
         let first = Row(words.first);
-        let field = row::read_row(rows, first);
+        let field = table::read_row(rows, first);
         if !leaf::is_leaf(field.kind) {
             stack[top] = n.0;
             return After::Into(first, end);
         }
         end = leaf::put(message, output, end, field);
         n = Row(words.second);
-        words = row::read_row(rows, n);
+        words = table::read_row(rows, n);
     }
     After::Done(leaf::put_byte(output, end, byte::RIGHT_BRACE))
 }
@@ -159,7 +158,7 @@ fn put_item(
     if ITEM_BEGUN <= frame {
         return After::Done(leaf::put_byte(output, at, byte::AMPERSAND));
     }
-    let words = row::read_row(rows, item);
+    let words = table::read_row(rows, item);
     if leaf::is_leaf(words.kind) {
         let end = leaf::put(message, output, at, words);
         return After::Done(leaf::put_byte(output, end, byte::AMPERSAND));
@@ -184,7 +183,7 @@ fn put_frame(
     ensures { λ r. ⌜ Partly (now (output .entry)) at (pending (now (message .entry)) (now (rows .entry)) (length (now (stack .entry))) (getD (now (stack .entry)) top 0 ∷ lastFirst (now (stack .entry)) top)) (now (output .exit)) (placeAfter (now (message .entry)) (now (rows .entry)) (length (now (stack .entry))) r) (comingAfter (now (message .entry)) (now (rows .entry)) (length (now (stack .entry))) r (now (stack .exit)) top) ⌝ }
 {
     let frame = stack[top];
-    let words = row::read_row(rows, Row(frame % ITEM_BEGUN));
+    let words = table::read_row(rows, Row(frame % ITEM_BEGUN));
     let k = words.kind;
     let start = Offset(words.first as usize);
     let n = words.second as usize;

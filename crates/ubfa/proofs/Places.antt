@@ -5,12 +5,12 @@ use mathlib.Core.List.{List, []}
 use native.Mathlib.Omega.{arith}
 use mir.Syntax.{w32}
 use mir.Val.{Fits}
-use Rattle.format.specs.Answer.{Tables, decodeAnswer, decodeRefusal}
+use Rattle.format.specs.Answer.{Tables, decodeAnswer, decodeRefusal, tables}
 use Rattle.format.specs.Bound.{messageBound}
 use Rattle.format.specs.declared.Offset.{Offset}
 use Rattle.format.specs.declared.Row.{Row}
 use Rattle.format.proofs.Places.{place-bound}
-use Rattle.decoder.specs.Answers.{decodedAs, tables}
+use Rattle.decoder.specs.Answers.{decodedAs}
 use Rattle.decoder.specs.declared.Decoded.{Decoded}
 use Rattle.decoder.specs.declared.Decoded.the-variants.{Accepted, Refused}
 

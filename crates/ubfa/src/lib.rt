@@ -3,9 +3,9 @@
 ghost use mathlib.Core.Path.{_≡_};
 ghost use mathlib.Core.List.{List};
 ghost use Prim.Native.Nat.{ℕ, _≤_};
-ghost use Rattle.format.specs.Answer.{Tables, decodeAnswer, writeAnswer, compareAnswer, wordAnswer};
+ghost use Rattle.format.specs.Answer.{Tables, decodeAnswer, writeAnswer, compareAnswer, wordAnswer, tables};
 ghost use Rattle.format.specs.Bound.{messageBound};
-ghost use Rattle.decoder.specs.Answers.{decodedAs, tables};
+ghost use Rattle.decoder.specs.Answers.{decodedAs};
 ghost use Rattle.text.specs.Answers.{writtenAs};
 ghost use Rattle.comparison.specs.Answers.{comparedAs};
 ghost use Rattle.words.specs.Answers.{wordAs};

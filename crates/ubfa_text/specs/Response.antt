@@ -4,12 +4,11 @@ use mathlib.Core.Bool.{cond}
 use mathlib.Core.List.{List}
 use lib.ListN.{length, take, replicate}
 use lib.Dec.{ltb}
-use Rattle.format.specs.Answer.{Tables}
+use Rattle.format.specs.Answer.{Tables, tables}
 use Rattle.format.specs.Machine.{Outcome, Result, refused, accepted}
 use Rattle.format.specs.Meaning.{termValues}
 use Rattle.format.specs.Rows.{rowWords}
 use Rattle.format.specs.Text.{plain}
-use Rattle.decoder.specs.Answers.{tables}
 use Rattle.text.specs.declared.Written.{Written}
 use Rattle.text.specs.declared.Written.the-variants as W
 use Rattle.text.specs.declared.Written.the-variants.{Bytes}

@@ -5,17 +5,16 @@ use mathlib.Core.List.{_∷_}
 use native.Mathlib.Omega.{arith}
 use lib.ListN.{length, drop, getD}
 use denote.Ref.{now}
-use Rattle.format.specs.Answer.{Tables, limitsOf, SameLengths}
+use Rattle.format.specs.Answer.{Tables, limitsOf, SameLengths, tables}
 use Rattle.format.specs.Machine.{run}
 use Rattle.format.specs.Rows.{rowValues}
 use Rattle.format.specs.declared.Offset.{Offset}
 use Rattle.format.specs.declared.Row.{Row as RowNumber}
 use Rattle.decoder.specs.declared.Decoded.the-variants.{Accepted}
 use Rattle.decoder.specs.declared.Decoded.the-variants as Decoded
-use Rattle.decoder.specs.declared.state.State.{State}
-use Rattle.decoder.specs.declared.state.Answer.the-variants.{More, Done, Refused}
-use Rattle.decoder.specs.Answers.{tables}
-use Rattle.decoder.specs.Held.{leftAs, leftBy}
+use Rattle.items.specs.declared.state.State.{State}
+use Rattle.items.specs.declared.state.Answer.the-variants.{More, Done, Refused}
+use Rattle.decoder.specs.Run.{leftAs, leftBy}
 use Rattle.decoder.proofs.Loop.{Going, chain, starts, over, byte-here, goes-on, done, stopped}
 use Rattle.decoder.proofs.run.run.Statement.{statement}
 use Rattle.decoder.proofs.run.run.Tie as tie

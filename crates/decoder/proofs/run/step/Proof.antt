@@ -8,11 +8,11 @@ use Rattle.format.specs.Byte as B
 use Rattle.format.specs.Byte.{Class, classOf, classCode}
 use Rattle.format.specs.Lex.{lex, itemOf}
 use Rattle.format.specs.Rows.{rowRoom}
-use Rattle.decoder.specs.Answers.{tables}
-use Rattle.decoder.specs.Held.{Ready}
+use Rattle.format.specs.Answer.{tables}
+use Rattle.items.specs.Held.{Ready}
 use Rattle.decoder.proofs.Classes.{lex-of, only-comma, integer-lex, integer-first}
-use Rattle.decoder.proofs.Spans.{atoms, strings}
-use Rattle.decoder.proofs.Steps.{stray}
+use Rattle.items.proofs.Spans.{atoms, strings}
+use Rattle.items.proofs.Steps.{stray}
 use Rattle.decoder.proofs.run.step.Statement.{statement}
 use Rattle.decoder.proofs.run.step.Tie as tie
 

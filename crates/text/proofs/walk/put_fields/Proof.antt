@@ -5,7 +5,7 @@ use native.Mathlib.Omega.{arith}
 use lib.ListN.{length}
 use borrow.Author.Tests.{not-false}
 use Rattle.table.specs.Words.{rowOf, lastFirst}
-use Rattle.text.specs.Leaves.{isLeafKind}
+use Rattle.leaves.specs.Leaves.{isLeafKind}
 use Rattle.text.proofs.Frames.{above-room}
 use Rattle.text.proofs.Fields.{Fielding, starts, stack-length, into, leaf-fits, next, earlier, names-room, close-fits, closed}
 use Rattle.text.proofs.walk.put_fields.Statement.{statement}

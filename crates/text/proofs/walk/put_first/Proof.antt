@@ -4,7 +4,7 @@ use mathlib.Core.Bool.{true, false}
 use native.Mathlib.Omega.{arith}
 use borrow.Author.Tests.{not-true, not-false}
 use Rattle.table.specs.Words.{rowOf, lastFirst}
-use Rattle.text.specs.Leaves.{isLeafKind}
+use Rattle.leaves.specs.Leaves.{isLeafKind}
 use Rattle.text.proofs.Frames.{above-room}
 use Rattle.text.proofs.Entering.{Entering, starts, frame-fits, begin-fits, first-earlier, first-room, entered, leaf-fits, leaf-stored}
 use Rattle.text.proofs.walk.put_first.Statement.{statement}

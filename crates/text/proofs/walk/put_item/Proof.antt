@@ -3,7 +3,7 @@ use mathlib.Core.Path.{_≡_, sym, _∙_}
 use mathlib.Core.Bool.{true}
 use native.Mathlib.Omega.{arith}
 use borrow.Author.Needs.{needs}
-use Rattle.text.specs.Leaves.{isLeafKind}
+use Rattle.leaves.specs.Leaves.{isLeafKind}
 use Rattle.text.proofs.Items.{item-room, begun-fits, begun-done, leaf-fits, and-fits, item-done, into}
 use Rattle.text.proofs.walk.put_item.Statement.{statement}
 use Rattle.text.proofs.walk.put_item.Tie as tie

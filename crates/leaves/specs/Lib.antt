@@ -1,0 +1,2 @@
+-- The texts of leaves.
+pub mod Leaves

@@ -1,0 +1,2 @@
+-- The lengths of the rows' texts.
+pub mod Lengths
