@@ -97,13 +97,13 @@ stops-at t s t′ n p (refuse n′ p′) e =
 stops-at t s t′ n p (finish v) e = let z : _≡_ {A = ℕ} 0 1 = cc in absurd (omega arith)
 stops-at t s t′ n p (go k w m) e = let z : _≡_ {A = ℕ} 0 1 = cc in absurd (omega arith)
 
-ends-with : (t : Tables) (s : State) (t′ : Tables) (root : RowNumber) (x : Step rowValues) → turn (Done root) t′ ≡ after t s x → (x ≡ finish (root .0)) × (t′ .rows ≡ t .rows)
+ends-with : (t : Tables) (s : State) (t′ : Tables) (root : RowNumber) (x : Step rowValues) → turn (Done root) t′ ≡ after t s x → (x ≡ finish (root .0)) × (t′ ≡ t)
 unfolding turn after
 ends-with t s t′ root (refuse n p) e = let z : _≡_ {A = ℕ} 0 1 = cc in absurd (omega arith)
 ends-with t s t′ root (finish v) e =
     let same : root .0 ≡ v = cc in
-    let rows : t′ .rows ≡ t .rows = cc in
-    (rw same refl, rows)
+    let kept : t′ ≡ t = cc in
+    (rw same refl, kept)
 ends-with t s t′ root (go k w m) e = let z : _≡_ {A = ℕ} 0 1 = cc in absurd (omega arith)
 
 -- all that holds before the item at a state's place, of which `bytes` are left of the message
@@ -144,7 +144,7 @@ module _ (message : List ℕ) (t t′ : Tables) (same : SameLengths t t′) (s :
   unfolding taken limited runFrom follow
   accepts root e =
       let x = ends-with t s t′ root (bounded rowValues limits (s .at .0) (s .next .0) stepped) e in
-      (rw (here, x .0) refl, x .1)
+      (rw (here, x .0) refl, ap (λ (u : Tables). u .rows) (x .1))
 
   -- what holds after it
   pub record After (s′ : State) : Type 0 where

@@ -75,7 +75,7 @@ count-of (some (negsuc k)) n e = cc
 count-of (some (pos k)) n e = let same : k ≡ n = cc in rw same refl
 
 module _ (rows stack marks registers : List ℕ) (s : State) (r : List ℕ) where
-  pub binary-few : s .depth .0 ≤ base (lastFirst marks (s .marks)) → taken (tables rows stack marks registers) s r tildeItem ≡ stops 6 (s .at .0)
+  pub binary-few : s .depth .0 ≤ base (lastFirst marks (s .marks)) → taken (tables rows stack marks registers) s r tildeItem ≡ stops 6 (s .at .0) (tables rows stack marks registers)
   unfolding taken step machineOf
   binary-few h = rw (pop-few (s .at .0) (lastFirst marks (s .marks)) stack _ (s .depth .0) h) (refused-step (tables rows stack marks registers) s 6 (s .at .0))
 
@@ -86,11 +86,11 @@ module _ (rows stack marks registers : List ℕ) (s : State) (r : List ℕ) wher
     unfolding taken step machineOf
     binary-popped = rw (pop-top (s .at .0) (lastFirst marks (s .marks)) stack _ (s .depth .0) g, ← e, held-row (tables rows stack marks registers) s h (s .depth .0 - 1) (omega arith) v e) refl
 
-    pub binary-7 : countAs (rowInteger (rowIn rows v)) ≡ NoInteger → taken (tables rows stack marks registers) s r tildeItem ≡ stops 7 (s .at .0)
+    pub binary-7 : countAs (rowInteger (rowIn rows v)) ≡ NoInteger → taken (tables rows stack marks registers) s r tildeItem ≡ stops 7 (s .at .0) (tables rows stack marks registers)
     unfolding M.takeBinary
     binary-7 q = binary-popped ∙ rw (count-none (rowInteger (rowIn rows v)) q) (refused-step (tables rows stack marks registers) s 7 (s .at .0))
 
-    pub binary-8 : countAs (rowInteger (rowIn rows v)) ≡ Negative → taken (tables rows stack marks registers) s r tildeItem ≡ stops 8 (s .at .0)
+    pub binary-8 : countAs (rowInteger (rowIn rows v)) ≡ Negative → taken (tables rows stack marks registers) s r tildeItem ≡ stops 8 (s .at .0) (tables rows stack marks registers)
     unfolding M.takeBinary
     binary-8 q = binary-popped ∙ rw (count-negative (rowInteger (rowIn rows v)) q .1) (refused-step (tables rows stack marks registers) s 8 (s .at .0))
 
@@ -109,14 +109,14 @@ module _ (message : List ℕ) (t : Tables) (s : State) (n : ℕ) (here : s .at .
   left : length rest ≡ length message - (s .at .0 + 1)
   left = length-drop (s .at .0 + 1) message
 
-  pub bytes-3 : length message - (s .at .0 + 1) ≤ n → bytesTaken ≡ stops 3 (length message)
+  pub bytes-3 : length message - (s .at .0 + 1) ≤ n → bytesTaken ≡ stops 3 (length message) t
   unfolding M.takeBinary
   bytes-3 h =
       let last : suc (s .at .0) + length rest ≡ length message = omega (arith, left) in
       rw (le-leb (length rest) n (omega (arith, left)), ← last) (refused-step t s 3 (suc (s .at .0) + length rest))
 
   module _ (h : n < length message - (s .at .0 + 1)) where
-    pub bytes-4 : ¬ (getD message (s .at .0 + 1 + n) 0 ≡ code "~") → bytesTaken ≡ stops 4 (s .at .0 + 1 + n)
+    pub bytes-4 : ¬ (getD message (s .at .0 + 1 + n) 0 ≡ code "~") → bytesTaken ≡ stops 4 (s .at .0 + 1 + n) t
     unfolding M.takeBinary
     bytes-4 g =
         let place : suc (s .at .0) + n ≡ s .at .0 + 1 + n = omega arith in
@@ -135,11 +135,11 @@ nil-made t s r = refl
 
 -- `&`
 module _ (rows stack marks registers : List ℕ) (s : State) (r : List ℕ) where
-  pub cons-few : s .depth .0 ≤ base (lastFirst marks (s .marks)) + 1 → taken (tables rows stack marks registers) s r ampersandItem ≡ stops 6 (s .at .0)
+  pub cons-few : s .depth .0 ≤ base (lastFirst marks (s .marks)) + 1 → taken (tables rows stack marks registers) s r ampersandItem ≡ stops 6 (s .at .0) (tables rows stack marks registers)
   unfolding taken step machineOf
   cons-few h = by (leb (s .depth .0) (base (lastFirst marks (s .marks)))) refl
     where
-      by : (q : Bool) → leb (s .depth .0) (base (lastFirst marks (s .marks))) ≡ q → taken (tables rows stack marks registers) s r ampersandItem ≡ stops 6 (s .at .0)
+      by : (q : Bool) → leb (s .depth .0) (base (lastFirst marks (s .marks))) ≡ q → taken (tables rows stack marks registers) s r ampersandItem ≡ stops 6 (s .at .0) (tables rows stack marks registers)
       by true e =
           rw (pop-few (s .at .0) (lastFirst marks (s .marks)) stack _ (s .depth .0) (leb-true _ _ e))
           (refused-step (tables rows stack marks registers) s 6 (s .at .0))
@@ -155,7 +155,7 @@ module _ (rows stack marks registers : List ℕ) (s : State) (r : List ℕ) wher
     cons-popped =
         rw (pop-top (s .at .0) (lastFirst marks (s .marks)) stack _ (s .depth .0) (omega arith), pop-top (s .at .0) (lastFirst marks (s .marks)) stack _ (s .depth .0 - 1) (omega arith), ← e, ← f) refl
 
-    pub cons-7 : isListKind (rowIn rows l .kind) ≡ false → taken (tables rows stack marks registers) s r ampersandItem ≡ stops 7 (s .at .0)
+    pub cons-7 : isListKind (rowIn rows l .kind) ≡ false → taken (tables rows stack marks registers) s r ampersandItem ≡ stops 7 (s .at .0) (tables rows stack marks registers)
     unfolding M.consList machineOf
     cons-7 q = cons-popped ∙ rw (held-row (tables rows stack marks registers) s h (s .depth .0 - 1 - 1) (omega arith) l f, q) (refused-step (tables rows stack marks registers) s 7 (s .at .0))
 

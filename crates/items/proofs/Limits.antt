@@ -5,6 +5,7 @@ use mathlib.Core.List.{List, [], _∷_, _++_}
 use native.Mathlib.Numerals.{add-one}
 use native.Mathlib.Omega.{arith}
 use lib.ListN.{length, set}
+use lib.Seq.{drop-set-lt}
 use borrow.Author.Tests.{lt-ltb, le-ltb}
 use Rattle.format.specs.Bound.{stackBound, markBound}
 use Rattle.format.specs.Machine.{Machine, refuse, go, bounded}
@@ -14,40 +15,44 @@ use Rattle.format.specs.declared.Offset.{Offset}
 use Rattle.table.specs.Words.{storedRows, lastFirst}
 use Rattle.items.specs.declared.state.State.{State}
 use Rattle.items.specs.declared.state.Answer.the-variants.{More, Refused}
-use Rattle.items.specs.Held.{Ready, Turn, goes, stops, machineOf, turn, after, limited, withRow, made}
+use Rattle.items.specs.Held.{Ready, Turn, goes, stops, machineOf, turn, past, after, limited, withRow, made}
 use Rattle.format.proofs.TableRows.{length-rows}
 use Rattle.table.proofs.Rows.{pushed, length-lastFirst}
-use Rattle.table.proofs.Cleared.{stored-rows, stored-length}
+use Rattle.table.proofs.Cleared.{stored-rows, stored-past, stored-length}
 
 -- a refusal, as the code answers it
-pub refusal : {x : Turn} (n : ℕ) (p : Offset) (t : Tables) → x ≡ stops n (p .0) → turn (Refused n p) t ≡ x
+pub refusal : {x : Turn} (n : ℕ) (p : Offset) (t : Tables) → x ≡ stops n (p .0) t → turn (Refused n p) t ≡ x
 unfolding turn
 refusal n p t e = sym e
 
 module _ (t : Tables) (s : State) where
   -- an item's own refusal, whatever the limits
-  pub refused-step : (n p : ℕ) → limited t s (refuse n p) ≡ stops n p
+  pub refused-step : (n p : ℕ) → limited t s (refuse n p) ≡ stops n p t
   unfolding limited after bounded
   refused-step n p = refl
 
   module _ (k w : ℕ) (m : Machine rowValues) where
-    pub no-rows : rowRoom (t .rows) < s .next .0 + w → limited t s (go k w m) ≡ stops 12 (s .at .0)
+    pub no-rows : rowRoom (t .rows) < s .next .0 + w → limited t s (go k w m) ≡ stops 12 (s .at .0) t
     unfolding limited after bounded limitsOf
     no-rows h = simp (lt-ltb _ _ h)
 
-    pub no-stack : s .next .0 + w ≤ rowRoom (t .rows) → min (length (t .stack)) stackBound < length (m .stack) → limited t s (go k w m) ≡ stops 13 (s .at .0)
+    pub no-stack : s .next .0 + w ≤ rowRoom (t .rows) → min (length (t .stack)) stackBound < length (m .stack) → limited t s (go k w m) ≡ stops 13 (s .at .0) t
     unfolding limited after bounded limitsOf
     no-stack h g = simp (le-ltb _ _ h, lt-ltb _ _ g)
 
     pub no-marks : s .next .0 + w ≤ rowRoom (t .rows) → length (m .stack) ≤ min (length (t .stack)) stackBound → min (length (t .marks)) markBound < length (m .marks)
-        → limited t s (go k w m) ≡ stops 14 (s .at .0)
+        → limited t s (go k w m) ≡ stops 14 (s .at .0) t
     unfolding limited after bounded limitsOf
     no-marks h g f = simp (le-ltb _ _ h, le-ltb _ _ g, lt-ltb _ _ f)
 
-    pub room-for : s .next .0 + w ≤ rowRoom (t .rows) → length (m .stack) ≤ min (length (t .stack)) stackBound → length (m .marks) ≤ min (length (t .marks)) markBound
-        → limited t s (go k w m) ≡ goes (suc (s .at .0) + k) (s .next .0 + w) (m .stack) (m .marks) (m .registers) (rowsIn (t .rows) (m .memory))
+    pub room-for : {depth noted : ℕ} → length (m .stack) ≡ depth → length (m .marks) ≡ noted
+        → s .next .0 + w ≤ rowRoom (t .rows) → depth ≤ min (length (t .stack)) stackBound → noted ≤ min (length (t .marks)) markBound
+        → limited t s (go k w m) ≡ goes (suc (s .at .0) + k) (s .next .0 + w) (m .stack) (m .marks) (m .registers) (rowsIn (t .rows) (m .memory)) (past t (s .next .0 + w) depth noted)
     unfolding limited after bounded limitsOf
-    room-for h g f = simp (le-ltb _ _ h, le-ltb _ _ g, le-ltb _ _ f)
+    room-for d n h g f =
+        let deep : length (m .stack) ≤ min (length (t .stack)) stackBound = rw d g in
+        let marked : length (m .marks) ≤ min (length (t .marks)) markBound = rw n f in
+        rw (← d, ← n) (simp (le-ltb _ _ h, le-ltb _ _ deep, le-ltb _ _ marked))
 
 -- rows stored where the next ones belong, n in all
 pub stored : (rows : List ℕ) (next : ℕ) (xs : List Row) → next + length xs ≤ rowRoom rows → (n : ℕ) → n ≡ next + length xs
@@ -57,11 +62,11 @@ stored rows next xs h n e = rw (e, stored-rows rows next xs h, stored-length row
 
 -- one row more over the values below a depth
 module _ (rows stack marks registers : List ℕ) (s : State) (below k : ℕ) (x : Row) where
-  pub made-12 : rowRoom rows ≤ s .next .0 → made (tables rows stack marks registers) s below k x ≡ stops 12 (s .at .0)
+  pub made-12 : rowRoom rows ≤ s .next .0 → made (tables rows stack marks registers) s below k x ≡ stops 12 (s .at .0) (tables rows stack marks registers)
   unfolding made
   made-12 h = no-rows (tables rows stack marks registers) s k 1 _ (omega arith)
 
-  pub made-13 : s .next .0 < rowRoom rows → min (length stack) stackBound ≤ below → made (tables rows stack marks registers) s below k x ≡ stops 13 (s .at .0)
+  pub made-13 : s .next .0 < rowRoom rows → min (length stack) stackBound ≤ below → made (tables rows stack marks registers) s below k x ≡ stops 13 (s .at .0) (tables rows stack marks registers)
   unfolding made withRow
   made-13 h g = no-stack (tables rows stack marks registers) s k 1 _ (omega arith) (omega (arith, length-lastFirst stack below))
 
@@ -73,9 +78,10 @@ module _ (rows stack marks registers : List ℕ) (s : State) (below k : ℕ) (x 
   made-goes h g f end e =
       let t = tables rows stack marks registers in
       let m = withRow x (lastFirst stack below) (machineOf t s) in
-      let deep : length (lastFirst stack below) ≡ below = length-lastFirst stack below in
-      let noted : length (lastFirst marks (s .marks)) ≡ s .marks = length-lastFirst marks (s .marks) in
-      let room : limited t s (go k 1 m) ≡ _ = room-for t s k 1 m (omega arith) (omega arith) (omega (arith, h .noted)) in
+      let deep : suc (length (lastFirst stack below)) ≡ below + 1 = omega (arith, length-lastFirst stack below) in
+      let room = room-for t s k 1 m deep (length-lastFirst marks (s .marks)) (omega arith) (omega arith) (h .noted) in
       let top : lastFirst (set stack below (s .next .0)) (below + 1) ≡ length (rowsOf (s .next .0) rows) ∷ lastFirst stack below =
       rw (add-one, length-rows) (pushed stack below (s .next .0) (omega arith)) in
-      rw (e, top, stored rows (s .next .0) (x ∷ []) (omega arith) (s .next .0 + 1) refl) (sym room)
+      let next : s .next .0 + 1 ≤ rowRoom rows = omega arith in
+      rw (e, top, stored rows (s .next .0) (x ∷ []) next (s .next .0 + 1) refl, stored-past rows (s .next .0) (x ∷ []) next, drop-set-lt (below + 1) stack below (s .next .0) (omega arith))
+      (sym room)

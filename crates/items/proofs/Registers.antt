@@ -27,7 +27,7 @@ use Rattle.items.specs.Held.{Ready, stops, registerIn, machineOf, turn, 
 use Rattle.table.proofs.Rows.{length-lastFirst}
 use Rattle.items.proofs.Limits.{refused-step}
 use Rattle.items.proofs.Pops.{pop-few, pop-top}
-use Rattle.items.proofs.Steps.{no-row, noted}
+use Rattle.items.proofs.Steps.{no-row}
 
 -- a register's word after a store
 stored-word : (words : List ℕ) (b v : ℕ) → b < length words → registerIn (set words b (v + 1)) ≡ M.setRegister rowValues b v (registerIn words)
@@ -93,7 +93,7 @@ module _ (rows stack marks registers : List ℕ) (s : State) (r : List ℕ) wher
   store-cut ended g e = rw (g, cut-short (s .at .0) r e) (sym (refused-step (tables rows stack marks registers) s 3 (suc (s .at .0) + length r)))
 
   module _ (b : ℕ) (end : Offset) (e : registerFrom (s .at .0 + 1) r ≡ Named b end) where
-    pub store-few : s .depth .0 ≤ base (lastFirst marks (s .marks)) → taken (tables rows stack marks registers) s r (store r) ≡ stops 6 (s .at .0)
+    pub store-few : s .depth .0 ≤ base (lastFirst marks (s .marks)) → taken (tables rows stack marks registers) s r (store r) ≡ stops 6 (s .at .0) (tables rows stack marks registers)
     unfolding taken step machineOf
     store-few h = rw (named (s .at .0) r b end e .0, pop-few (s .at .0) (lastFirst marks (s .marks)) stack _ (s .depth .0) h) (refused-step (tables rows stack marks registers) s 6 (s .at .0))
 
@@ -105,4 +105,4 @@ module _ (rows stack marks registers : List ℕ) (s : State) (r : List ℕ) wher
         let t = tables rows stack marks registers in
         let n = named (s .at .0) r b end e in
         rw (n .0, pop-top (s .at .0) (lastFirst marks (s .marks)) stack _ (s .depth .0) g, n .1, stored-word registers b v l, ← q)
-        (sym (no-row t s h 1 _ _ _ (omega (arith, h .depth, length-lastFirst stack (s .depth .0 - 1))) (noted t s h)))
+        (sym (no-row t s h 1 _ _ _ (length-lastFirst stack (s .depth .0 - 1)) (length-lastFirst marks (s .marks)) (omega (arith, h .depth)) (h .noted)))

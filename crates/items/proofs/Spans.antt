@@ -90,7 +90,7 @@ module _ (rows stack marks registers : List ℕ) (s : State) (r : List ℕ) (n :
       rw (c .0) (passes (tables rows stack marks registers) s h (suc n) (end .0) (c .1))
 
   module _ (e : quotedFrom (code "`") false (s .at .0 + 1) r ≡ Closed n end) where
-    pub tag-few : s .depth .0 ≤ base (lastFirst marks (s .marks)) → taken (tables rows stack marks registers) s r (quoted (code "`") tagItem r) ≡ stops 6 (s .at .0)
+    pub tag-few : s .depth .0 ≤ base (lastFirst marks (s .marks)) → taken (tables rows stack marks registers) s r (quoted (code "`") tagItem r) ≡ stops 6 (s .at .0) (tables rows stack marks registers)
     unfolding taken quoted quotedItem step machineOf
     tag-few h =
         rw (closed (code "`") (s .at .0) r n end e .0, pop-few (s .at .0) (lastFirst marks (s .marks)) stack _ (s .depth .0) h)

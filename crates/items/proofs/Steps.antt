@@ -5,6 +5,7 @@ use mathlib.Core.List.{List, _∷_}
 use native.Mathlib.Numerals.{add-one}
 use native.Mathlib.Omega.{arith}
 use lib.ListN.{length, set, getD}
+use lib.Seq.{drop-set-lt}
 use borrow.Author.Tests.{ne-eqb}
 use Rattle.format.specs.Bound.{stackBound, markBound}
 use Rattle.format.specs.Lex as L
@@ -16,33 +17,27 @@ use Rattle.format.specs.Answer.{Tables, rowsIn, tables}
 use Rattle.table.specs.Words.{lastFirst}
 use Rattle.items.specs.declared.state.State.{State}
 use Rattle.items.specs.declared.state.Answer.the-variants.{More, Done, Refused}
-use Rattle.items.specs.Held.{Ready, goes, stops, registerIn, machineOf, turn, after, limited, taken}
+use Rattle.items.specs.Held.{Ready, goes, stops, registerIn, machineOf, turn, past, after, limited, taken}
 use Rattle.table.proofs.Rows.{pushed, length-lastFirst}
 use Rattle.items.proofs.Limits.{refused-step, no-stack, no-marks, room-for}
 
 module _ (t : Tables) (s : State) (h : Ready t s) where
-  -- an item that makes no row and leaves stack and marks within their room
-  pub no-row : (k : ℕ) (stack marks : List ℕ) (registers : ℕ → _) → length stack ≤ min (length (t .stack)) stackBound → length marks ≤ min (length (t .marks)) markBound
+  -- an item that makes no row and leaves so many values and marks, within their room
+  pub no-row : (k : ℕ) (stack marks : List ℕ) (registers : ℕ → _) {depth noted : ℕ} → length stack ≡ depth → length marks ≡ noted
+      → depth ≤ min (length (t .stack)) stackBound → noted ≤ min (length (t .marks)) markBound
       → limited t s (go k 0 (record { stack = stack; marks = marks; registers = registers; memory = machineOf t s .memory }))
-      ≡ goes (suc (s .at .0) + k) (s .next .0) stack marks registers (rowsIn (t .rows) (rowsOf (s .next .0) (t .rows)))
+      ≡ goes (suc (s .at .0) + k) (s .next .0) stack marks registers (rowsIn (t .rows) (rowsOf (s .next .0) (t .rows))) (past t (s .next .0) depth noted)
   unfolding machineOf
-  no-row k stack marks registers g f =
+  no-row k stack marks registers d n g f =
       let m : Machine rowValues = record { stack = stack; marks = marks; registers = registers; memory = rowsOf (s .next .0) (t .rows) } in
       let used : s .next .0 + 0 ≡ s .next .0 = omega arith in
-      room-for t s k 0 m (omega (arith, h .used)) g f ∙ rw used refl
-
-  -- the stack and the marks as they are
-  pub deep : length (lastFirst (t .stack) (s .depth .0)) ≤ min (length (t .stack)) stackBound
-  deep = omega (arith, h .depth, length-lastFirst (t .stack) (s .depth .0))
-
-  pub noted : length (lastFirst (t .marks) (s .marks)) ≤ min (length (t .marks)) markBound
-  noted = omega (arith, h .noted, length-lastFirst (t .marks) (s .marks))
+      room-for t s k 0 m d n (omega (arith, h .used)) g f ∙ rw used refl
 
   -- nothing but the place changes
   pub passes : (k end : ℕ) → end ≡ suc (s .at .0) + k
       → turn (More (record { at = record { 0 = end }; next = s .next; depth = s .depth; marks = s .marks })) t ≡ limited t s (go k 0 (machineOf t s))
   unfolding turn machineOf
-  passes k end e = rw e (sym (no-row k _ _ _ deep noted))
+  passes k end e = rw e (sym (no-row k _ _ _ (length-lastFirst (t .stack) (s .depth .0)) (length-lastFirst (t .marks) (s .marks)) (h .depth) (h .noted)))
 
   pub white : (r : List ℕ) → turn (More (record { at = record { 0 = s .at .0 + 1 }; next = s .next; depth = s .depth; marks = s .marks })) t ≡ taken t s r whiteItem
   unfolding taken step
@@ -57,11 +52,11 @@ stray t s r =
 
 -- `{`
 module _ (rows stack marks registers : List ℕ) (s : State) (r : List ℕ) (h : Ready (tables rows stack marks registers) s) where
-  pub open-14 : min (length marks) markBound ≤ s .marks → taken (tables rows stack marks registers) s r openItem ≡ stops 14 (s .at .0)
+  pub open-14 : min (length marks) markBound ≤ s .marks → taken (tables rows stack marks registers) s r openItem ≡ stops 14 (s .at .0) (tables rows stack marks registers)
   unfolding taken step machineOf
   open-14 g =
       let t = tables rows stack marks registers in
-      no-marks t s 0 0 _ (omega (arith, h .used)) (deep t s h) (omega (arith, length-lastFirst marks (s .marks)))
+      no-marks t s 0 0 _ (omega (arith, h .used)) (omega (arith, h .depth, length-lastFirst stack (s .depth .0))) (omega (arith, length-lastFirst marks (s .marks)))
 
   pub open-goes : s .marks < min (length marks) markBound
       → turn (More (record { at = record { 0 = s .at .0 + 1 }; next = s .next; depth = s .depth; marks = s .marks + 1 })) (tables rows stack (set marks (s .marks) (s .depth .0)) registers)
@@ -72,16 +67,18 @@ module _ (rows stack marks registers : List ℕ) (s : State) (r : List ℕ) (h :
       let at : s .at .0 + 1 ≡ suc (s .at .0) + 0 = omega arith in
       let top : lastFirst (set marks (s .marks) (s .depth .0)) (s .marks + 1) ≡ length (lastFirst stack (s .depth .0)) ∷ lastFirst marks (s .marks) =
       rw (add-one, length-lastFirst stack (s .depth .0)) (pushed marks (s .marks) (s .depth .0) (omega arith)) in
-      rw (at, top) (sym (no-row t s h 0 _ _ _ (deep t s h) (omega (arith, length-lastFirst marks (s .marks)))))
+      let more : suc (length (lastFirst marks (s .marks))) ≡ s .marks + 1 = omega (arith, length-lastFirst marks (s .marks)) in
+      rw (at, top, drop-set-lt (s .marks + 1) marks (s .marks) (s .depth .0) (omega arith))
+      (sym (no-row t s h 0 _ _ _ (length-lastFirst stack (s .depth .0)) more (h .depth) (omega arith)))
 
 -- a push from a register, whose word is in hand
 module _ (rows stack marks registers : List ℕ) (s : State) (r : List ℕ) (b word : ℕ) (e : word ≡ getD registers b 0) where
-  pub push-9 : word ≡ 0 → taken (tables rows stack marks registers) s r (pushItem b) ≡ stops 9 (s .at .0)
+  pub push-9 : word ≡ 0 → taken (tables rows stack marks registers) s r (pushItem b) ≡ stops 9 (s .at .0) (tables rows stack marks registers)
   unfolding taken step machineOf registerIn M.pushRegister
   push-9 z = rw (← e, z) (refused-step (tables rows stack marks registers) s 9 (s .at .0))
 
   module _ (h : Ready (tables rows stack marks registers) s) (full : ¬ (word ≡ 0)) where
-    pub push-13 : min (length stack) stackBound ≤ s .depth .0 → taken (tables rows stack marks registers) s r (pushItem b) ≡ stops 13 (s .at .0)
+    pub push-13 : min (length stack) stackBound ≤ s .depth .0 → taken (tables rows stack marks registers) s r (pushItem b) ≡ stops 13 (s .at .0) (tables rows stack marks registers)
     unfolding taken step machineOf registerIn M.pushRegister
     push-13 g =
         rw (← e, ne-eqb word 0 full)
@@ -96,7 +93,9 @@ module _ (rows stack marks registers : List ℕ) (s : State) (r : List ℕ) (b w
         let at : s .at .0 + 1 ≡ suc (s .at .0) + 0 = omega arith in
         let top : lastFirst (set stack (s .depth .0) (word - 1)) (s .depth .0 + 1) ≡ (word - 1) ∷ lastFirst stack (s .depth .0) =
         rw add-one (pushed stack (s .depth .0) (word - 1) (omega arith)) in
-        rw (at, top, ← e, ne-eqb word 0 full) (sym (no-row t s h 0 _ _ _ (omega (arith, length-lastFirst stack (s .depth .0))) (noted t s h)))
+        let more : suc (length (lastFirst stack (s .depth .0))) ≡ s .depth .0 + 1 = omega (arith, length-lastFirst stack (s .depth .0)) in
+        rw (at, top, drop-set-lt (s .depth .0 + 1) stack (s .depth .0) (word - 1) (omega arith), ← e, ne-eqb word 0 full)
+        (sym (no-row t s h 0 _ _ _ more (length-lastFirst marks (s .marks)) (omega arith) (h .noted)))
 
 -- `$`
 module _ (rows stack marks registers : List ℕ) (s : State) (r : List ℕ) where
@@ -111,11 +110,11 @@ module _ (rows stack marks registers : List ℕ) (s : State) (r : List ℕ) wher
   not-one (suc zero) h = absurd (h refl)
   not-one (suc (suc n)) h = refl
 
-  pub end-10 : ¬ (s .marks ≡ 0) → taken (tables rows stack marks registers) s r endItem ≡ stops 10 (s .at .0)
+  pub end-10 : ¬ (s .marks ≡ 0) → taken (tables rows stack marks registers) s r endItem ≡ stops 10 (s .at .0) (tables rows stack marks registers)
   unfolding taken step machineOf
   end-10 h = rw (marked (s .marks) h _) (refused-step (tables rows stack marks registers) s 10 (s .at .0))
 
-  pub end-11 : s .marks ≡ 0 → ¬ (s .depth .0 ≡ 1) → taken (tables rows stack marks registers) s r endItem ≡ stops 11 (s .at .0)
+  pub end-11 : s .marks ≡ 0 → ¬ (s .depth .0 ≡ 1) → taken (tables rows stack marks registers) s r endItem ≡ stops 11 (s .at .0) (tables rows stack marks registers)
   unfolding taken limited after bounded step machineOf M.endMessage lastFirst
   end-11 e h = rw (e, not-one (s .depth .0) h) refl
 

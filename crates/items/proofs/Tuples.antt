@@ -6,7 +6,7 @@ use native.Mathlib.Nat.{not-suc-le-zero}
 use native.Mathlib.Numerals.{add-one, sub-one}
 use native.Mathlib.Omega.{arith}
 use lib.ListN.{length, set, take, drop}
-use lib.Seq.{length-take-le}
+use lib.Seq.{length-take-le, drop-set-lt}
 use borrow.Author.Tests.{lt-ltb, le-ltb}
 use Rattle.format.specs.Bound.{stackBound}
 use Rattle.format.specs.Lex.{closeItem}
@@ -20,6 +20,7 @@ use Rattle.format.specs.Answer.{tables}
 use Rattle.items.specs.Held.{Ready, stops, registerIn, machineOf, turn, taken}
 use Rattle.format.proofs.TableRows.{length-rows}
 use Rattle.table.proofs.Rows.{pushed, length-lastFirst, drop-lastFirst, tuple-rows}
+use Rattle.table.proofs.Cleared.{stored-past}
 use Rattle.table.proofs.Tuple.{length-tuple}
 use Rattle.items.proofs.Limits.{stored, refused-step, no-rows, no-stack, room-for}
 
@@ -43,12 +44,12 @@ module _ (at : ℕ) (m : Machine rowValues) (marks : List ℕ) (low : ℕ) where
   above (suc n) h e g = rw (← e, le-ltb (length (m .stack)) low g, sub-one) refl
 
 module _ (rows stack marks registers : List ℕ) (s : State) (r : List ℕ) where
-  pub close-10 : s .marks ≡ 0 → taken (tables rows stack marks registers) s r closeItem ≡ stops 10 (s .at .0)
+  pub close-10 : s .marks ≡ 0 → taken (tables rows stack marks registers) s r closeItem ≡ stops 10 (s .at .0) (tables rows stack marks registers)
   unfolding taken step machineOf
   close-10 e = rw (unmarked (s .at .0) _ marks (s .marks) e) (refused-step (tables rows stack marks registers) s 10 (s .at .0))
 
   module _ (low : ℕ) (some : 0 < s .marks) (e : low ≡ base (lastFirst marks (s .marks))) where
-    pub close-17 : s .depth .0 < low → taken (tables rows stack marks registers) s r closeItem ≡ stops 17 (s .at .0)
+    pub close-17 : s .depth .0 < low → taken (tables rows stack marks registers) s r closeItem ≡ stops 17 (s .at .0) (tables rows stack marks registers)
     unfolding taken step machineOf
     close-17 h =
         rw (under (s .at .0) (machineOf (tables rows stack marks registers) s) marks low (s .marks) some e (omega (arith, length-lastFirst stack (s .depth .0))))
@@ -74,11 +75,11 @@ module _ (rows stack marks registers : List ℕ) (s : State) (r : List ℕ) wher
         ∙ rw (deep, tuple-rows mem (take (s .depth .0 - low) (lastFirst stack (s .depth .0))), drop-lastFirst stack (s .depth .0 - low) (s .depth .0) (omega arith), under, count, length-take-le (s .depth .0 - low) (lastFirst stack (s .depth .0)) (omega arith)) refl
 
     module _ (h : low ≤ s .depth .0) where
-      pub close-12 : rowRoom rows ≤ s .next .0 + (s .depth .0 - low) → taken (tables rows stack marks registers) s r closeItem ≡ stops 12 (s .at .0)
+      pub close-12 : rowRoom rows ≤ s .next .0 + (s .depth .0 - low) → taken (tables rows stack marks registers) s r closeItem ≡ stops 12 (s .at .0) (tables rows stack marks registers)
       unfolding taken
       close-12 g = rw (close-step h) (no-rows (tables rows stack marks registers) s 0 (suc (s .depth .0 - low)) closed (omega arith))
 
-      pub close-13 : s .next .0 + (s .depth .0 - low) < rowRoom rows → min (length stack) stackBound ≤ low → taken (tables rows stack marks registers) s r closeItem ≡ stops 13 (s .at .0)
+      pub close-13 : s .next .0 + (s .depth .0 - low) < rowRoom rows → min (length stack) stackBound ≤ low → taken (tables rows stack marks registers) s r closeItem ≡ stops 13 (s .at .0) (tables rows stack marks registers)
       unfolding taken closed
       close-13 g f =
           rw (close-step h) (no-stack (tables rows stack marks registers) s 0 (suc (s .depth .0 - low)) closed (omega arith) (omega (arith, length-lastFirst stack low)))
@@ -94,6 +95,11 @@ module _ (rows stack marks registers : List ℕ) (s : State) (r : List ℕ) wher
           let used : last + 1 ≡ s .next .0 + suc (s .depth .0 - low) = omega arith in
           let top : lastFirst (set stack low last) (low + 1) ≡ last ∷ lastFirst stack low = rw add-one (pushed stack low last (omega arith)) in
           let more : length (tupleRows (s .next .0) (between stack low (s .depth .0))) ≡ suc (s .depth .0 - low) = length-tuple rows stack low (s .depth .0) (s .next .0) in
-          let words = stored rows (s .next .0) (tupleRows (s .next .0) (between stack low (s .depth .0))) (omega arith) (s .next .0 + suc (s .depth .0 - low)) (omega arith) in
-          rw (close-step h, at, used, top, words, q)
-          (sym (room-for t s 0 (suc (s .depth .0 - low)) closed (omega arith) (omega (arith, length-lastFirst stack low)) (omega (arith, ready .noted, length-lastFirst marks (s .marks - 1)))))
+          let made = tupleRows (s .next .0) (between stack low (s .depth .0)) in
+          let fits : s .next .0 + length made ≤ rowRoom rows = omega arith in
+          let words = stored rows (s .next .0) made fits (s .next .0 + suc (s .depth .0 - low)) (omega arith) in
+          let kept = rw more at (stored-past rows (s .next .0) made fits) in
+          let deep : suc (length (lastFirst stack low)) ≡ low + 1 = omega (arith, length-lastFirst stack low) in
+          let room = room-for t s 0 (suc (s .depth .0 - low)) closed deep (length-lastFirst marks (s .marks - 1)) (omega arith) (omega arith) (omega (arith, ready .noted)) in
+          rw (close-step h, at, used, top, words, kept, drop-set-lt (low + 1) stack low last (omega arith), q)
+          (sym room)

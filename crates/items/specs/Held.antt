@@ -1,16 +1,16 @@
 -- The machine at rows as state and tables hold it, and what comes of an item, seen in them.
-use Prim.Native.Nat.{ℕ, suc, _+_, _-_, _≤_, _<_, min}
+use Prim.Native.Nat.{ℕ, suc, _+_, _*_, _-_, _≤_, _<_, min}
 use mathlib.Core.Path.{_≡_}
 use mathlib.Core.Bool.{cond}
 use mathlib.Core.Option.{Option, none, some}
 use mathlib.Core.List.{List, [], _∷_, _++_}
-use lib.ListN.{length, getD, take}
+use lib.ListN.{length, getD, take, drop}
 use lib.Dec.{eqb}
 use Rattle.format.specs.Bound.{stackBound, markBound, registerWords}
 use Rattle.format.specs.Lex.{Item}
 use Rattle.format.specs.Machine.{Machine, Step, refuse, go, finish, bounded, step}
-use Rattle.format.specs.Rows.{Row, rowValues, rowsOf, rowRoom, spanRow}
-use Rattle.format.specs.Answer.{Tables, limitsOf, rowsIn}
+use Rattle.format.specs.Rows.{Row, rowWords, rowValues, rowsOf, rowRoom, spanRow}
+use Rattle.format.specs.Answer.{Tables, tables, limitsOf, rowsIn}
 use Rattle.table.specs.Words.{lastFirst}
 use Rattle.items.specs.declared.state.State.{State}
 use Rattle.items.specs.declared.state.Answer.{Answer}
@@ -37,23 +37,28 @@ pub record Ready (t : Tables) (s : State) : Type 0 where
   pub registers : registerWords ≤ length (t .registers)
   pub values : (i : ℕ) → i < s .depth .0 → getD (t .stack) i 0 < s .next .0
 
--- what comes of an item, with the row table's words last, as far as rows are made: it goes on (place, rows used, stack, marks, registers), ends (root), or stops
+-- the words of the tables past so many rows, values and marks
+abbrev pub past : Tables → ℕ → ℕ → ℕ → Tables
+past t used depth noted = tables (drop (used * rowWords) (t .rows)) (drop depth (t .stack)) (drop noted (t .marks)) []
+
+-- what comes of an item, with all that the tables hold then: it goes on (place, rows used, stack, marks, registers, the row table's words as far as rows are
+-- made, and what lies past all of these), ends (root), or stops (number, place)
 pub data Turn : Type 0 where
-  goes : ℕ → ℕ → List ℕ → List ℕ → (ℕ → Option ℕ) → List ℕ → Turn
-  ends : ℕ → List ℕ → Turn
-  stops : ℕ → ℕ → Turn
+  goes : ℕ → ℕ → List ℕ → List ℕ → (ℕ → Option ℕ) → List ℕ → Tables → Turn
+  ends : ℕ → Tables → Turn
+  stops : ℕ → ℕ → Tables → Turn
 
 -- as a function of this crate answers it, with the tables that it leaves
 unfoldable pub turn : Answer → Tables → Turn
-turn (More s) t = goes (s .at .0) (s .next .0) (lastFirst (t .stack) (s .depth .0)) (lastFirst (t .marks) (s .marks)) (registerIn (t .registers)) (rowsIn (t .rows) (rowsOf (s .next .0) (t .rows)))
-turn (Done root) t = ends (root .0) (t .rows)
-turn (Refused number place) t = stops number (place .0)
+turn (More s) t = goes (s .at .0) (s .next .0) (lastFirst (t .stack) (s .depth .0)) (lastFirst (t .marks) (s .marks)) (registerIn (t .registers)) (rowsIn (t .rows) (rowsOf (s .next .0) (t .rows))) (past t (s .next .0) (s .depth .0) (s .marks))
+turn (Done root) t = ends (root .0) t
+turn (Refused number place) t = stops number (place .0) t
 
--- as the machine's step gives it, with the rows in the words of the table
+-- as the machine's step gives it, with the rows in the words of the table; nothing past them changes, nor anything where the item stops or ends
 unfoldable pub after : Tables → State → Step rowValues → Turn
-after t s (refuse n p) = stops n p
-after t s (go k w m) = goes (suc (s .at .0) + k) (s .next .0 + w) (m .stack) (m .marks) (m .registers) (rowsIn (t .rows) (m .memory))
-after t s (finish v) = ends v (t .rows)
+after t s (refuse n p) = stops n p t
+after t s (go k w m) = goes (suc (s .at .0) + k) (s .next .0 + w) (m .stack) (m .marks) (m .registers) (rowsIn (t .rows) (m .memory)) (past t (s .next .0 + w) (length (m .stack)) (length (m .marks)))
+after t s (finish v) = ends v t
 
 -- a step under the limits of the tables
 unfoldable pub limited : Tables → State → Step rowValues → Turn

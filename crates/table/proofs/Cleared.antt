@@ -6,7 +6,7 @@ use native.Mathlib.Nat.{le-refl}
 use native.Mathlib.Omega.{arith}
 use borrow.Rule.Slice.PartMut.{midOf, putMid, post-is, mid-len}
 use lib.ListN.{length, take, drop, length-append}
-use lib.Seq.{sets-eq, take-all, drop-length, length-sets}
+use lib.Seq.{sets-eq, drop-append-seam, take-all, drop-length, length-sets}
 use Rattle.format.specs.Rows.{Row, rowWords, wordsOf, rowsOf, rowRoom}
 use Rattle.format.specs.Answer.{zeroed, rowsIn}
 use Rattle.format.proofs.Decoded.{rows-back, words-length}
@@ -50,10 +50,17 @@ module _ (words : List ℕ) (n : ℕ) (rows : List Row) (h : n + length rows ≤
       sets-eq (wordsOf rows) words (n * rowWords) (omega (arith, words-length rows))
       ∙ rw (words-append (rowsOf n words) rows, words-back n words (omega arith), append-assoc) refl
 
+  count : length (rowsOf n words ++ rows) ≡ n + length rows
+  count = length-append (rowsOf n words) rows ∙ ap (λ (k : ℕ). k + length rows) (length-rows n words)
+
   pub stored-rows : rowsOf (n + length rows) (storedRows words n rows) ≡ rowsOf n words ++ rows
-  stored-rows =
-      let count : length (rowsOf n words ++ rows) ≡ n + length rows = length-append (rowsOf n words) rows ∙ ap (λ (k : ℕ). k + length rows) (length-rows n words) in
-      rw (stored-words, ← count) (rows-back (rowsOf n words ++ rows) _)
+  stored-rows = rw (stored-words, ← count) (rows-back (rowsOf n words ++ rows) _)
+
+  pub stored-past : drop ((n + length rows) * rowWords) (storedRows words n rows) ≡ drop ((n + length rows) * rowWords) words
+  stored-past =
+      let head : length (wordsOf (rowsOf n words ++ rows)) ≡ (n + length rows) * rowWords = omega (arith, words-length (rowsOf n words ++ rows), count) in
+      let place : n * rowWords + length (wordsOf rows) ≡ (n + length rows) * rowWords = omega (arith, words-length rows) in
+      rw (stored-words, place, ← head) (drop-append-seam (wordsOf (rowsOf n words ++ rows)) _)
 
   pub stored-length : length (storedRows words n rows) ≡ length words
   unfolding storedRows
