@@ -2,20 +2,20 @@
 use Prim.Native.Nat.{ℕ, _+_, _≤_, _<_}
 use Prim.Native.Char.{code}
 use mathlib.Core.Path.{_≡_, refl, ap, sym, subst, _∙_}
-use mathlib.Core.Bool.{Bool, true, false, _||_}
+use mathlib.Core.Bool.{Bool, true, false, _||_, _&&_, cond}
 use mathlib.Core.List.{List, [], _∷_, _++_}
+use native.Mathlib.Numerals.{add-one}
 use native.Mathlib.Omega.{arith}
-use lib.ListN.{length, set, length-set, length-append}
-use lib.Seq.{getD-set-same, getD-set-other}
+use lib.ListN.{length, getD, set, take, drop, length-set, length-append, drop-of-length-le}
+use lib.Seq.{getD-set-same, getD-set-other, take-suc, drop-cons, length-take-le}
 use lib.Dec.{eqb, leb, T}
-use borrow.Author.Tests.{eqb-true, eqb-false, ne-eqb, lt-ltb, le-ltb, le-leb, lt-leb}
-use Rattle.format.specs.Answer.{zeroed}
+use borrow.Author.Tests.{eqb-true, eqb-false, ne-eqb, lt-leb}
 use Rattle.format.specs.Bound.{rowBound}
 use Rattle.format.specs.Meaning.{itemsOf}
 use Rattle.format.specs.Term as T
 use Rattle.format.specs.Term.{Term, Terms, _then_}
 use Rattle.format.specs.Text.{naturalOn, between, textOn, itemsOn, fieldsOn, plain}
-use Rattle.format.specs.Rows.{Row, rowAt, spanOf, fieldsOf, isListKind, isTupleKind, integerKind, atomKind, stringKind, binaryKind, nilKind, consKind, endKind, fieldKind, tagKind, integerOfRow, rowsOf, rowRoom, termAt}
+use Rattle.format.specs.Rows.{Row, row, rowAt, spanOf, fieldsOf, isListKind, isTupleKind, integerKind, atomKind, stringKind, binaryKind, nilKind, consKind, endKind, fieldKind, tagKind, integerOfRow, rowsOf, rowRoom, termAt}
 use Rattle.format.specs.Sound.{soundRow, soundRest, soundRows}
 use Rattle.format.proofs.Sizes.{text-onto}
 use Rattle.format.proofs.Lists.{length-span}
@@ -25,7 +25,7 @@ use Rattle.format.proofs.TableRows.{length-rows, judged}
 use Rattle.table.specs.Words.{rowIn}
 use Rattle.table.proofs.Rows.{row-of}
 use Rattle.table.proofs.Judged as J
-use Rattle.measure.specs.Lengths.{textLength, named, below, ownLength, total, rowLength, longest, capped, lengthIn, Measured, leftAfter}
+use Rattle.measure.specs.Lengths.{textLength, named, below, ownLength, total, rowLength, longest, capped, lengthIn, Measured, lengthsAfter}
 use Rattle.leaves.proofs.Leaves.{length-after, length-between, length-quoted}
 
 -- a tag is none of the others
@@ -255,30 +255,62 @@ module _ (message words : List ℕ) (used : ℕ) where
   abbrev rows′ : List Row
   rows′ = rowsOf used words
 
+  -- the words once the rows from i on are judged too
+  abbrev from : ℕ → List ℕ → List ℕ
+  from i lengths = lengthsAfter message (take i rows′) (drop i rows′) lengths
+
+  from-ends : (i : ℕ) (lengths : List ℕ) → used ≤ i → from i lengths ≡ lengths
+  unfolding lengthsAfter
+  from-ends i lengths h = rw (drop-of-length-le rows′ {i = i} (rw length-rows h))
+
+  module _ (fits : used ≤ rowRoom words) (i : ℕ) (h : i < used) (r : Row) (own : r ≡ rowIn words i) (lengths : List ℕ) where
+    from-row : from i lengths
+        ≡ cond (soundRow message i r && soundRest (r .kind) (rowAt (take i rows′) (r .second) .kind)) (from (i + 1) (set lengths i (capped (rowLength (lengthIn lengths) r)))) lengths
+    unfolding lengthsAfter rowAt
+    from-row =
+        let l : i < length rows′ = rw length-rows h in
+        let e : getD rows′ i (row 0 0 0 0) ≡ r = sym (own ∙ row-of words used i fits h) in
+        let n : length (take i rows′) ≡ i = length-take-le i rows′ (omega arith) in
+        rw (drop-cons rows′ i (row 0 0 0 0) l, add-one, take-suc rows′ i (row 0 0 0 0) l, n, e)
+
+    from-row-fails : soundRow message i r ≡ false → from i lengths ≡ lengths
+    from-row-fails e = from-row ∙ rw e
+
+    module _ (sound : soundRow message i r ≡ true) where
+      from-rest-fails : soundRest (r .kind) (rowIn words (r .second) .kind) ≡ false → from i lengths ≡ lengths
+      from-rest-fails e = from-row ∙ rw (sound, J.rest-same message words used fits i h r own sound, e)
+
+      from-passes : soundRest (r .kind) (rowIn words (r .second) .kind) ≡ true → from i lengths ≡ from (i + 1) (set lengths i (capped (rowLength (lengthIn lengths) r)))
+      from-passes e = from-row ∙ rw (sound, J.rest-same message words used fits i h r own sound, e)
+
   -- the rows before row i are judged, and measured where all rows are sound
-  pub record Measuring (lengths : List ℕ) (i : ℕ) : Type 0 where
+  pub record Measuring (lengths₀ lengths : List ℕ) (i : ℕ) : Type 0 where
     pub fits : used ≤ rowRoom words
     pub same : length lengths ≡ used
+    pub after : from i lengths ≡ from 0 lengths₀
     pub judged-to : J.from message words used i ≡ soundRows message rows′
     pub measured : T (soundRows message rows′) → Measured message rows′ lengths i
 
-  pub begins : used ≤ rowRoom words → (lengths : List ℕ) → length lengths ≡ used → Measuring lengths 0
-  begins f lengths e = record { fits = f; same = e; judged-to = J.begins message words used; measured = λ s j h. absurd (omega arith) }
+  pub begins : used ≤ rowRoom words → (lengths : List ℕ) → length lengths ≡ used → Measuring lengths lengths 0
+  begins f lengths e = record { fits = f; same = e; after = refl; judged-to = J.begins message words used; measured = λ s j h. absurd (omega arith) }
 
   -- what is promised of an answer and the lengths left
-  abbrev Judged : Bool → List ℕ → Type 0
-  Judged answer lengths = (answer ≡ soundRows message rows′) × (T (soundRows message rows′) → Measured message rows′ lengths used)
+  abbrev Judged : Bool → List ℕ → List ℕ → Type 0
+  Judged answer lengths₀ lengths =
+      (answer ≡ soundRows message rows′) × ((T (soundRows message rows′) → Measured message rows′ lengths used) × (lengths ≡ lengthsAfter message [] rows′ lengths₀))
 
-  unsound : (lengths : List ℕ) → false ≡ soundRows message rows′ → Judged false lengths
-  unsound lengths e = (e, λ s j l. absurd (subst T (sym e) s))
+  unsound : (lengths₀ lengths : List ℕ) → false ≡ soundRows message rows′ → lengths ≡ from 0 lengths₀ → Judged false lengths₀ lengths
+  unsound lengths₀ lengths e q = (e, (λ s j l. absurd (subst T (sym e) s), q))
 
-  module _ (lengths : List ℕ) (i : ℕ) (m : Measuring lengths i) where
+  module _ (lengths₀ lengths : List ℕ) (i : ℕ) (m : Measuring lengths₀ lengths i) where
     pub row-number : i < length lengths → i < rowBound
     unfolding rowRoom
     row-number h = omega (arith, m .fits, m .same)
 
-    pub all-judged : length lengths ≤ i → Judged true lengths
-    all-judged h = (sym (J.ends message words used i (omega (arith, m .same))) ∙ m .judged-to, λ s j l. m .measured s j (omega (arith, m .same)))
+    pub all-judged : length lengths ≤ i → Judged true lengths₀ lengths
+    all-judged h =
+        let all : used ≤ i = omega (arith, m .same) in
+        (sym (J.ends message words used i all) ∙ m .judged-to, (λ s j l. m .measured s j (omega arith), sym (from-ends i lengths all) ∙ m .after))
 
     -- row i
     module _ (h : i < length lengths) {r : Row} (read : r ≡ rowIn words i) where
@@ -288,8 +320,10 @@ module _ (message words : List ℕ) (used : ℕ) where
       within : i < used
       within = omega (arith, m .same)
 
-      pub row-fails : soundRow message i r ≡ false → Judged false lengths
-      row-fails e = unsound lengths (sym (J.row-fails message words used (m .fits) i within r read e) ∙ m .judged-to)
+      pub row-fails : soundRow message i r ≡ false → Judged false lengths₀ lengths
+      row-fails e =
+          unsound lengths₀ lengths (sym (J.row-fails message words used (m .fits) i within r read e) ∙ m .judged-to)
+          (sym (from-row-fails (m .fits) i within r read lengths e) ∙ m .after)
 
       module _ (own : soundRow message i r ≡ true) where
         sound-row : T (soundRow message i r)
@@ -303,13 +337,16 @@ module _ (message words : List ℕ) (used : ℕ) where
         pub rest-room : (r .kind ≡ consKind → r .second < rowRoom words) × (r .kind ≡ fieldKind → r .second < rowRoom words)
         rest-room = (J.cons-room message words used (m .fits) i within r read own, J.field-room message words used (m .fits) i within r read own)
 
-        pub rest-fails : soundRest (r .kind) (rowIn words (r .second) .kind) ≡ false → Judged false lengths
-        rest-fails e = unsound lengths (sym (J.rest-fails message words used (m .fits) i within r read own e) ∙ m .judged-to)
+        pub rest-fails : soundRest (r .kind) (rowIn words (r .second) .kind) ≡ false → Judged false lengths₀ lengths
+        rest-fails e =
+            unsound lengths₀ lengths (sym (J.rest-fails message words used (m .fits) i within r read own e) ∙ m .judged-to)
+            (sym (from-rest-fails (m .fits) i within r read lengths own e) ∙ m .after)
 
-        pub next-row : soundRest (r .kind) (rowIn words (r .second) .kind) ≡ true → {n word : ℕ} → n ≡ rowLength (lengthIn lengths) r → word ≡ capped n → Measuring (set lengths i word) (i + 1)
+        pub next-row : soundRest (r .kind) (rowIn words (r .second) .kind) ≡ true → {n word : ℕ} → n ≡ rowLength (lengthIn lengths) r → word ≡ capped n → Measuring lengths₀ (set lengths i word) (i + 1)
         next-row rest {n} {word} e w = record {
           fits = m .fits;
           same = length-set lengths i word ∙ m .same;
+          after = rw (w, e) (sym (from-passes (m .fits) i within r read lengths own rest) ∙ m .after);
           judged-to = sym (J.passes message words used (m .fits) i within r read own rest) ∙ m .judged-to;
           measured = λ s j l. either j i (λ q. rw q (getD-set-same lengths i word 0 h ∙ its-own s)) (λ q. getD-set-other lengths i j word 0 (λ x. omega (arith, eqb-false j i q)) ∙ m .measured s j (omega (arith, eqb-false j i q)));
         }
@@ -326,17 +363,3 @@ module _ (t : Term) (room n : ℕ) (e : n ≡ capped (textLength t)) where
   pub too-long : longest ≤ n → room ≤ longest → false ≡ leb (length (plain t)) room
   unfolding plain capped
   too-long h g = sym (lt-leb (length (plain t)) room (omega (arith, text-after t (code "$" ∷ []), e)))
-
--- the words after that
-module _ (n room : ℕ) (lengths : List ℕ) where
-  pub as-it-was : n < longest → leftAfter n room lengths ≡ lengths
-  unfolding leftAfter
-  as-it-was h = rw (lt-ltb n longest h)
-
-  pub no-count : longest ≤ n → room ≤ longest → leftAfter n room lengths ≡ lengths
-  unfolding leftAfter
-  no-count h g = rw (le-ltb n longest h, le-leb room longest g)
-
-  pub zero-after : longest ≤ n → longest < room → leftAfter n room lengths ≡ zeroed lengths
-  unfolding leftAfter
-  zero-after h g = rw (le-ltb n longest h, lt-leb room longest g)

@@ -1,15 +1,15 @@
 -- 01, 'Plain text': how many bytes a row's text has, from the lengths of the texts of the rows that it names.
 use Prim.Native.Nat.{ℕ, _+_, _<_, min}
 use mathlib.Core.Path.{_≡_}
-use mathlib.Core.Bool.{cond}
-use mathlib.Core.List.{List, [], _∷_}
-use lib.ListN.{length, getD}
-use lib.Dec.{eqb, ltb, leb}
-use Rattle.format.specs.Answer.{zeroed}
+use mathlib.Core.Bool.{_&&_, cond}
+use mathlib.Core.List.{List, [], _∷_, _++_}
+use lib.ListN.{length, getD, set}
+use lib.Dec.{eqb}
 use Rattle.format.specs.Term as T
 use Rattle.format.specs.Term.{Term}
 use Rattle.format.specs.Text.{naturalOn, textOn}
-use Rattle.format.specs.Rows.{Row, integerKind, atomKind, stringKind, binaryKind, nilKind, consKind, endKind, fieldKind, tagKind, integerOfRow, termAt}
+use Rattle.format.specs.Rows.{Row, integerKind, atomKind, stringKind, binaryKind, nilKind, consKind, endKind, fieldKind, tagKind, integerOfRow, rowAt, termAt}
+use Rattle.format.specs.Sound.{soundRow, soundRest}
 
 -- how many bytes a term's text has, without `$`
 abbrev pub textLength : Term → ℕ
@@ -64,6 +64,11 @@ lengthIn lengths i = getD lengths i 0
 abbrev pub Measured : List ℕ → List Row → List ℕ → ℕ → Type 0
 Measured message rows lengths i = (j : ℕ) → j < i → getD lengths j 0 ≡ capped (textLength (termAt message rows j))
 
--- the words once a text was tested for room, where the root's word holds n: as they were, or zero where the text had to be counted
-unfoldable pub leftAfter : ℕ → ℕ → List ℕ → List ℕ
-leftAfter n room lengths = cond (ltb n longest) lengths (cond (leb room longest) lengths (zeroed lengths))
+-- the words once the rows were judged after the rows `earlier`: the word of each row gets its length, by the words of the rows that it names, up to the first row
+-- that is not sound
+unfoldable pub lengthsAfter : List ℕ → List Row → List Row → List ℕ → List ℕ
+lengthsAfter message earlier [] lengths = lengths
+lengthsAfter message earlier (r ∷ rows) lengths =
+    cond (soundRow message (length earlier) r && soundRest (r .kind) (rowAt earlier (r .second) .kind))
+    (lengthsAfter message (earlier ++ (r ∷ [])) rows (set lengths (length earlier) (capped (rowLength (lengthIn lengths) r))))
+    lengths

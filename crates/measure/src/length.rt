@@ -12,7 +12,7 @@ use leaves::leaf;
 use table::RowWords;
 
 // The largest length that a word holds: it stands for itself and for all above.
-pub(crate) const LONGEST: u32 = 4294967295;
+pub const LONGEST: u32 = 4294967295;
 
 // A length in a word.
 pub(crate) fn cap(n: u64) -> u32
@@ -37,7 +37,7 @@ fn integer_length(high: u32, low: u32) -> u64
 }
 
 // The length of what is a row's own of its text, without the rows that it names. A cell's rest has the `#` or the braces.
-pub(crate) fn own_length(words: RowWords) -> u64
+pub fn own_length(words: RowWords) -> u64
     ensures { λ r. ⌜ r ≡ ownLength (rowOf words) ⌝ }
 {
     let k = words.kind;

@@ -50,11 +50,15 @@ module _ (message words : List ℕ) (used : ℕ) where
       pub field-room : r .kind ≡ fieldKind → r .second < rowRoom words
       field-room k = omega (arith, field-earlier message i r (subst T (sym sound) tt) k .1)
 
-      rest-at : from i ≡ (soundRest (r .kind) (rowIn words (r .second) .kind) && from (i + 1))
+      -- a rest is the same among the rows before as in the table
+      pub rest-same : soundRest (r .kind) (rowAt (take i rows) (r .second) .kind) ≡ soundRest (r .kind) (rowIn words (r .second) .kind)
       unfolding rowAt
-      rest-at =
+      rest-same =
           let e : r .second < i → rowAt (take i rows) (r .second) ≡ rowIn words (r .second) = λ l. getD-take i rows (r .second) (row 0 0 0 0) l ∙ sym (row-of words used (r .second) fits (omega arith)) in
-          row-at ∙ rw (sound, rest-kind message i r (subst T (sym sound) tt) _ _ (λ l. ap (λ (y : Row). y .kind) (e l)))
+          rest-kind message i r (subst T (sym sound) tt) _ _ (λ l. ap (λ (y : Row). y .kind) (e l))
+
+      rest-at : from i ≡ (soundRest (r .kind) (rowIn words (r .second) .kind) && from (i + 1))
+      rest-at = row-at ∙ rw (sound, rest-same)
 
       pub rest-fails : soundRest (r .kind) (rowIn words (r .second) .kind) ≡ false → from i ≡ false
       rest-fails e = rw (rest-at, e)

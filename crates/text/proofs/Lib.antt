@@ -1,5 +1,7 @@
 -- The laws that the writer's proofs use.
 
+-- a plain text counted row by row
+pub mod Counts
 -- a text stored part by part
 pub mod Partly
 -- the frames of the walk, and the texts of rows by the rows that they name

@@ -15,6 +15,8 @@ use format::bound;
 use format::refusal;
 use table::sound;
 
+mod count;
+mod room;
 mod store;
 mod walk;
 
@@ -38,7 +40,7 @@ fn write_rows(
     if !measure::judge(message, rows, stack) {
         return Written::Refused(refusal::UNSOUND);
     }
-    if !measure::fits(message, rows, root, stack, output.len()) {
+    if !room::fits(message, rows, root, stack, output.len()) {
         return Written::Refused(refusal::TOO_LONG);
     }
     Written::Bytes(store::store_text(message, rows, root, stack, output))

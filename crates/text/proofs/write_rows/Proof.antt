@@ -1,7 +1,7 @@
 -- `text::write_rows` meets its contract: 16, 15, or the text stored.
-use mathlib.Core.Path.{_≡_, sym, _∙_}
+use mathlib.Core.Path.{_≡_, sym, _∙_, subst}
 use mathlib.Core.Bool.{true}
-use lib.Dec.{leb}
+use lib.Dec.{T, leb}
 use lib.ListN.{length}
 use denote.Ref.{now}
 use borrow.Author.Tests.{not-true, not-false, leb-true}
@@ -34,7 +34,7 @@ room : (c : tie.Else2) → let start = call (judging (known (c .before .before .
     leb (length (plain (termAt (now (start .message)) (rowsOf (length (now (start .stack))) (now (start .rows))) (start .root .0)))) (length (now (start .output))) ≡ true
 room c =
     let fitted = c .before .before .before in
-    rw (judging (known fitted) .judge .kept .1 .1 .0) at (sym (fitted .fits2 .ensures .0) ∙ not-false _ (c .if2 .left))
+    rw (judging (known fitted) .judge .kept .1 .1 .0) at (sym (fitted .fits2 .ensures) ∙ not-false _ (c .if2 .left))
 
 judge-requires : tie.Need-judge-requires
 judge-requires c κs = count-room _ _ _ (c .before .before .before .before .before .pre)
@@ -51,7 +51,7 @@ fits-requires : tie.Need-fits-requires
 fits-requires c κs =
     let sound = judged (c .before) in
     let at = judging (c .before) in
-    rw (at .judge .kept .1 .1 .0) (whole _ _ _ (call at .pre) _ sound, at .judge .ensures .1 .0 (not-false _ (c .before .if1 .left)))
+    rw (at .judge .kept .1 .1 .0) (whole _ _ _ (call at .pre) _ sound, at .judge .ensures .1 .0 (subst T (sym sound) tt))
 
 same-length-2 : tie.Need-same-length-2
 same-length-2 c = search needs
@@ -60,7 +60,7 @@ returns-2 : tie.Need-returns-2
 returns-2 c =
     let fitted = c .before .before .before in
     let sound = judged (known fitted) in
-    let long = rw (judging (known fitted) .judge .kept .1 .1 .0) at (sym (fitted .fits2 .ensures .0) ∙ not-true _ (c .if2 .taken)) in
+    let long = rw (judging (known fitted) .judge .kept .1 .1 .0) at (sym (fitted .fits2 .ensures) ∙ not-true _ (c .if2 .taken)) in
     λ scratch. too-long _ _ _ sound scratch _ long
 
 store-text-requires : tie.Need-store-text-requires

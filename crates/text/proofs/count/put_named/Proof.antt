@@ -1,11 +1,11 @@
--- `measure::count::put_named` meets its contract: by the rows that are named.
+-- `text::count::put_named` meets its contract: by the rows that are named.
 use mathlib.Core.Path.{_∙_}
 use native.Mathlib.Omega.{arith}
 use Rattle.measure.proofs.Lengths.{names-cell, names-field, names-inner, names-none, names-room, names-onto}
-use Rattle.measure.proofs.Counts.{one-put}
+use Rattle.text.proofs.Counts.{one-put}
 use borrow.Author.Needs.{needs}
-use Rattle.measure.proofs.count.put_named.Statement.{statement}
-use Rattle.measure.proofs.count.put_named.Tie as tie
+use Rattle.text.proofs.count.put_named.Statement.{statement}
+use Rattle.text.proofs.count.put_named.Tie as tie
 
 put-both-requires : tie.Need-put-both-requires
 put-both-requires c κs =

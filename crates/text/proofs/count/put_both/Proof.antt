@@ -1,8 +1,8 @@
--- `measure::count::put_both` meets its contract.
-use Rattle.measure.proofs.Counts.{two-put}
+-- `text::count::put_both` meets its contract.
+use Rattle.text.proofs.Counts.{two-put}
 use borrow.Author.Needs.{needs}
-use Rattle.measure.proofs.count.put_both.Statement.{statement}
-use Rattle.measure.proofs.count.put_both.Tie as tie
+use Rattle.text.proofs.count.put_both.Statement.{statement}
+use Rattle.text.proofs.count.put_both.Tie as tie
 
 mul-stack : tie.Need-mul-stack
 mul-stack c = search needs

@@ -5,15 +5,14 @@ ghost use mathlib.Core.List.{_∷_, _++_};
 ghost use Prim.Native.Nat.{_+_, _≤_, _<_};
 ghost use lib.Dec.{T, leb};
 ghost use lib.ListN.{length};
-ghost use Rattle.format.specs.Answer.{zeroed};
 ghost use Rattle.format.specs.Rows.{rowsOf, termAt};
 ghost use Rattle.format.specs.Sound.{soundTable};
 ghost use Rattle.format.specs.Text.{plain};
 ghost use Rattle.table.specs.Words.{rowOf, lastFirst};
 ghost use Rattle.measure.specs.Lengths.{named};
-use crate::length;
 use format::Row;
 use format::kind;
+use measure::length;
 use table::RowWords;
 
 // Puts two rows in place of the top, and answers how many then lie on the stack.
@@ -45,7 +44,7 @@ fn put_named(stack: &mut [u32], top: usize, words: RowWords) -> usize
 
 // Whether the plain text of a sound table's root has room. The stack, which has a word for each row used, holds the rows that are still to be counted. The
 // count stops as soon as it has passed the room.
-fn count(message: &[u8], rows: &[u32], root: Row, stack: &mut [u32], room: usize) -> bool
+pub(crate) fn fits(message: &[u8], rows: &[u32], root: Row, stack: &mut [u32], room: usize) -> bool
     requires { ⌜ T (soundTable (now message) (now rows) (length (now stack)) (root .0)) ⌝ }
     ensures { λ r. ⌜ r ≡ leb (length (plain (termAt (now (message .entry)) (rowsOf (length (now (stack .entry))) (now (rows .entry))) (root .0)))) room ⌝ }
 {
@@ -54,7 +53,7 @@ fn count(message: &[u8], rows: &[u32], root: Row, stack: &mut [u32], room: usize
     let mut left = room;
     while 0 < depth {
         let top = depth - 1;
-        let words = table::read_row(rows, Row(stack[top]));
+        let words = table::load_row(rows, Row(stack[top]));
         let n = length::own_length(words) as usize;
         if left < n {
             return false;
@@ -64,15 +63,4 @@ fn count(message: &[u8], rows: &[u32], root: Row, stack: &mut [u32], room: usize
     }
     // `$`
     0 < left
-}
-
-// The same, with the stack cleared afterwards.
-pub(crate) fn fits(message: &[u8], rows: &[u32], root: Row, stack: &mut [u32], room: usize) -> bool
-    requires { ⌜ T (soundTable (now message) (now rows) (length (now stack)) (root .0)) ⌝ }
-    ensures { λ r. ⌜ r ≡ leb (length (plain (termAt (now (message .entry)) (rowsOf (length (now (stack .entry))) (now (rows .entry))) (root .0)))) room ⌝ }
-    ensures { λ r. ⌜ now (stack .exit) ≡ zeroed (now (stack .entry)) ⌝ }
-{
-    let fits = count(message, rows, root, stack, room);
-    table::clear(stack);
-    fits
 }

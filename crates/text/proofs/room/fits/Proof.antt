@@ -1,13 +1,12 @@
--- `measure::fits` meets its contract: by the root's length where its word tells it, or by a count.
-use mathlib.Core.Path.{sym, _∙_}
+-- `text::room::fits` meets its contract: by the root's length where its word tells it, or by a count.
 use native.Mathlib.Omega.{arith}
 use denote.Ref.{now}
 use lib.ListN.{length}
 use Rattle.format.proofs.TableRows.{Passed, passed}
-use Rattle.measure.proofs.Lengths.{exact, too-long, as-it-was, no-count, zero-after}
+use Rattle.measure.proofs.Lengths.{exact, too-long}
 use borrow.Author.Needs.{needs}
-use Rattle.measure.proofs.fits.Statement.{statement}
-use Rattle.measure.proofs.fits.Tie as tie
+use Rattle.text.proofs.room.fits.Statement.{statement}
+use Rattle.text.proofs.room.fits.Tie as tie
 
 -- what the test of the table says
 tested : (c : tie.Start) → Passed (now (c .args .message)) (now (c .args .rows)) (length (now (c .args .stack))) (c .args .root .0)
@@ -35,7 +34,7 @@ add-result c = search needs
 returns : tie.Need-returns
 returns c =
     let start = call (c .before) in
-    (exact _ _ _ (start .pre .1 _ (tested start .among)) (c .if1 .taken), sym (as-it-was _ _ _ (c .if1 .taken)))
+    exact _ _ _ (start .pre .1 _ (tested start .among)) (c .if1 .taken)
 
 cast-if2 : tie.Need-cast-if2
 cast-if2 c = search needs
@@ -44,7 +43,7 @@ returns-2 : tie.Need-returns-2
 returns-2 c =
     let long = c .before in
     let start = call (long .before) in
-    (too-long _ _ _ (start .pre .1 _ (tested start .among)) (long .if1 .left) (c .if2 .taken), sym (no-count _ _ _ (long .if1 .left) (c .if2 .taken)))
+    too-long _ _ _ (start .pre .1 _ (tested start .among)) (long .if1 .left) (c .if2 .taken)
 
 fits-requires : tie.Need-fits-requires
 fits-requires c κs = call (c .before .before .before) .pre .0
@@ -53,10 +52,7 @@ same-length : tie.Need-same-length
 same-length c = search needs
 
 returns-3 : tie.Need-returns-3
-returns-3 c =
-    let counted = c .before .before in
-    let room = counted .before .before in
-    (counted .fits2 .ensures .0, counted .fits2 .ensures .1 ∙ sym (zero-after _ _ _ (room .before .if1 .left) (room .if2 .left)))
+returns-3 c = c .before .before .fits2 .ensures
 
 pub fits-spec : {M : Type 1} → statement M
 fits-spec = tie.close (tie.spec cast-n mul-n slice-read-n cast-result add-result returns cast-if2 returns-2 fits-requires same-length returns-3)

@@ -112,9 +112,6 @@ module _ (message words : List ℕ) (used all room : ℕ) where
       pub top-bound : depth - 1 < rowBound
       unfolding rowRoom
       top-bound = omega (arith, top-inside, m .same, m .fits)
-
-      pub top-room : top < rowRoom words
-      top-room = omega (arith, top-low .0, m .fits)
 
       -- the row read there
       module _ (r : Row) (e : r ≡ rowIn words top) where

@@ -1,4 +1,4 @@
--- `measure::count::count` meets its contract: what is still to be counted has the room that is left exactly where the whole text had the room.
+-- `text::count::fits` meets its contract: what is still to be counted has the room that is left exactly where the whole text had the room.
 use mathlib.Core.Path.{_≡_, _∙_}
 use mathlib.Core.Bool.{Bool}
 use native.Mathlib.Omega.{arith}
@@ -8,9 +8,9 @@ use denote.Ref.{now}
 use Rattle.format.specs.Rows.{rowsOf, termAt}
 use Rattle.format.specs.Text.{plain}
 use Rattle.table.specs.Words.{lastFirst}
-use Rattle.measure.proofs.Counts.{work, toCount, Counting, some-word, begins, whole, top-inside, top-bound, top-room, named-fit, room-enough, too-long, next, less}
-use Rattle.measure.proofs.count.count.Statement.{statement}
-use Rattle.measure.proofs.count.count.Tie as tie
+use Rattle.text.proofs.Counts.{work, toCount, Counting, some-word, begins, whole, top-inside, top-bound, named-fit, room-enough, too-long, next, less}
+use Rattle.text.proofs.count.fits.Statement.{statement}
+use Rattle.text.proofs.count.fits.Tie as tie
 
 abbrev Inv-loop : tie.InvT-loop
 Inv-loop message rows stack₀ room depth₀ left₀ stack depth left = Counting message rows (length stack₀) (toCount message rows (length stack₀) stack₀ depth₀) left₀ stack depth left
@@ -23,10 +23,10 @@ abbrev call : (c : tie.At-loop Inv-loop μ-loop) → tie.Start Inv-loop μ-loop
 call c = c .before .before .before .before
 
 -- back from the row's own length to its words, and to the loop's test
-abbrev read : (c : tie.After-own-length Inv-loop μ-loop) → tie.After-read-row Inv-loop μ-loop
+abbrev read : (c : tie.After-own-length Inv-loop μ-loop) → tie.After-load-row Inv-loop μ-loop
 read c = c .before
 
-abbrev turn : (c : tie.After-read-row Inv-loop μ-loop) → tie.In-loop Inv-loop μ-loop
+abbrev turn : (c : tie.After-load-row Inv-loop μ-loop) → tie.In-loop Inv-loop μ-loop
 turn c = c .before .before
 
 -- whether all fits is whether the plain text does
@@ -54,8 +54,8 @@ mul-t13 c = omega (arith, top-bound _ _ _ _ _ _ _ _ (c .before .loop .inv) (c .l
 slice-read-t15 : tie.Need-slice-read-t15 Inv-loop μ-loop
 slice-read-t15 c = top-inside _ _ _ _ _ _ _ _ (c .before .before .loop .inv) (c .before .loop-test .taken)
 
-read-row-requires : tie.Need-read-row-requires Inv-loop μ-loop
-read-row-requires c κs = top-room _ _ _ _ _ _ _ _ (c .before .before .loop .inv) (c .before .loop-test .taken)
+load-row-requires : tie.Need-load-row-requires Inv-loop μ-loop
+load-row-requires c κs = tt
 
 own-length-requires : tie.Need-own-length-requires Inv-loop μ-loop
 own-length-requires c κs = tt
@@ -67,20 +67,20 @@ returns : tie.Need-returns Inv-loop μ-loop
 returns c =
     let words = read (c .before) in
     let at = turn words in
-    text-fits (at .before) (too-long _ _ _ _ _ _ _ _ (at .before .loop .inv) (at .loop-test .taken) _ (words .read-row .ensures) _ (c .before .own-length .ensures) (c .if1 .taken))
+    text-fits (at .before) (too-long _ _ _ _ _ _ _ _ (at .before .loop .inv) (at .loop-test .taken) _ (words .load-row .ensures) _ (c .before .own-length .ensures) (c .if1 .taken))
 
 put-named-requires : tie.Need-put-named-requires Inv-loop μ-loop
 put-named-requires c κs =
     let words = read (c .before .before) in
     let at = turn words in
-    named-fit _ _ _ _ _ _ _ _ (at .before .loop .inv) (at .loop-test .taken) _ (words .read-row .ensures)
+    named-fit _ _ _ _ _ _ _ _ (at .before .loop .inv) (at .loop-test .taken) _ (words .load-row .ensures)
 
 loop-less : tie.Need-loop-less Inv-loop μ-loop
 loop-less c =
     let put = c .before .before in
     let own = put .before .before .before in
     let at = turn (read own) in
-    less _ _ _ _ _ _ _ _ (at .before .loop .inv) (at .loop-test .taken) _ (read own .read-row .ensures) _ (own .own-length .ensures) _ _ (put .put-named .kept .0) (put .put-named .ensures)
+    less _ _ _ _ _ _ _ _ (at .before .loop .inv) (at .loop-test .taken) _ (read own .load-row .ensures) _ (own .own-length .ensures) _ _ (put .put-named .kept .0) (put .put-named .ensures)
 
 loop-again : tie.Need-loop-again Inv-loop μ-loop
 loop-again c =
@@ -88,7 +88,7 @@ loop-again c =
     let fit = put .before .before in
     let own = fit .before in
     let at = turn (read own) in
-    next _ _ _ _ _ _ _ _ (at .before .loop .inv) (at .loop-test .taken) _ (read own .read-row .ensures) _ (own .own-length .ensures) _ _ (put .put-named .kept .0) (put .put-named .ensures) (fit .if1 .left)
+    next _ _ _ _ _ _ _ _ (at .before .loop .inv) (at .loop-test .taken) _ (read own .load-row .ensures) _ (own .own-length .ensures) _ _ (put .put-named .kept .0) (put .put-named .ensures) (fit .if1 .left)
 
 same-length-2 : tie.Need-same-length-2 Inv-loop μ-loop
 same-length-2 c = c .before .loop .inv .same ∙ length-set (now (call (c .before) .args .stack)) 0 _
@@ -96,8 +96,8 @@ same-length-2 c = c .before .loop .inv .same ∙ length-set (now (call (c .befor
 returns-2 : tie.Need-returns-2 Inv-loop μ-loop
 returns-2 c = text-fits (c .before) (room-enough _ _ _ _ _ _ _ _ (c .before .loop .inv) (c .loop-test .left))
 
-pub count-spec : {M : Type 1} → statement M
-count-spec =
+pub fits-spec : {M : Type 1} → statement M
+fits-spec =
     tie.close
     (tie.spec
     Inv-loop
@@ -107,7 +107,7 @@ count-spec =
     sub-top
     mul-t13
     slice-read-t15
-    read-row-requires
+    load-row-requires
     own-length-requires
     same-length
     returns
