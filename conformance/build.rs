@@ -14,13 +14,19 @@ fn variable(name: &str) -> String {
     env::var(name).unwrap_or_else(|_| panic!("cargo sets {name}"))
 }
 
-/// Links libubfa.a, from the folder that UBFA_LIB_DIR names or from where the library's own build leaves it.
+/// Links libubfa.a, from the folder that UBFA_LIB_DIR names or from where the library's own build leaves it. A folder that has a shared
+/// libubfa.so is linked with that, so that one build of the tests serves for many of them (faults/run).
 fn link(package: &Path) {
     println!("cargo::rerun-if-env-changed=UBFA_LIB_DIR");
     let folder = match env::var_os("UBFA_LIB_DIR") {
         Some(folder) => PathBuf::from(folder),
         None => package.join("../target/staticlib"),
     };
+    println!("cargo::rustc-link-search=native={}", folder.display());
+    if folder.join("libubfa.so").is_file() {
+        println!("cargo::rustc-link-lib=dylib=ubfa");
+        return;
+    }
     let archive = folder.join("libubfa.a");
     println!("cargo::rerun-if-changed={}", archive.display());
     if !archive.is_file() {
@@ -29,7 +35,6 @@ fn link(package: &Path) {
             archive.display()
         );
     }
-    println!("cargo::rustc-link-search=native={}", folder.display());
     println!("cargo::rustc-link-lib=static=ubfa");
 }
 

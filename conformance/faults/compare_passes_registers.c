@@ -1,3 +1,4 @@
+/* Noticed by: pairs */
 /* Messages with registers are passed as equal without a look. */
 #include "true.h"
 

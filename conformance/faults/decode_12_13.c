@@ -1,3 +1,4 @@
+/* Noticed by: refusals */
 /* No room in the rows and no room on the stack are confused. */
 #include "true.h"
 

@@ -1,3 +1,4 @@
+/* Noticed by: random */
 /* Byte 255 names no register. */
 #include "true.h"
 

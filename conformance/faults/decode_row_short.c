@@ -1,3 +1,4 @@
+/* Noticed by: limits */
 /* The last row that was lent is not used. */
 #include "true.h"
 

@@ -1,3 +1,4 @@
+/* Noticed by: bench traffic */
 /* The row table's last word, past the rows used, is not cleared. */
 #include "true.h"
 

@@ -1,4 +1,4 @@
-/* Nothing is broken: every test has to pass. */
+/* Nothing is broken: none of the tests that the other shims name may fail. */
 #include "true.h"
 
 ubfa_decoded ubfa_decode(LENT_DECODE) { return true_decode(PASS_DECODE); }

@@ -1,3 +1,4 @@
+/* Noticed by: words */
 /* Words are joined in the other order of bytes: the order of the host, not of the name. */
 #include "true.h"
 

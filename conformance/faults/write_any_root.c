@@ -1,3 +1,4 @@
+/* Noticed by: unsound */
 /* A root that is not among the rows is taken for row 0. */
 #include "true.h"
 

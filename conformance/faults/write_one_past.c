@@ -1,3 +1,4 @@
+/* Noticed by: bench traffic */
 /* A byte past the text is written. */
 #include "true.h"
 
