@@ -108,7 +108,7 @@ fn full(rows: usize, message: [&str; 3], times: usize, plain: [&str; 4]) -> Full
 }
 
 /// Deep lists, tuples and tags, long lists, and wide tuples.
-fn fullest(rows: usize) -> [Full; 8] {
+fn fullest(rows: usize) -> [Full; 9] {
     let half = rows / 2 - 1;
     let odd = 2 * half + 1;
     let wide = (STACK_WORDS - 1).min(rows - 2);
@@ -116,6 +116,13 @@ fn fullest(rows: usize) -> [Full; 8] {
     let tuples = ["1>a", "{a}>a", "a`t`$"];
     [
         full(odd, ["#>a", "#a&>a", "a$"], half, ["#", "#", "&", "$"]),
+        // a row for each round, so that it is the deepest of all
+        full(
+            rows,
+            ["#>ee>a", "ea&>a", "a$"],
+            rows - 1,
+            ["#", "#", "&", "$"],
+        ),
         full(odd, ["{}>a", "{a}>a", "a$"], half, ["{", "{}", "}", "$"]),
         full(odd + 1, tuples, half, ["{", "1 ", "}", "`t`$"]),
         full(rows, ["1 ", "`t`", "$"], rows - 1, ["", "1 ", "`t`", "$"]),
@@ -153,6 +160,8 @@ fn full_tables_are_written() {
         let (written, text) = checker.write(table, rows, plain.len()).sure(&message);
         assert_eq!(written.number, 0, "{what}");
         assert!(text == plain, "{what}");
+        let (written, _) = checker.write(table, rows, plain.len() - 1).sure(&message);
+        assert_eq!(written.number, 15, "{what}");
     }
 }
 

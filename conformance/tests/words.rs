@@ -152,13 +152,14 @@ fn lengths_that_are_no_multiple() {
 
 #[test]
 fn what_is_no_block() {
-    let messages: [&[u8]; 17] = [
+    let messages: [&[u8]; 18] = [
         b"2~ab~$",
         b"2~ab~`u24be`$",
         b"2~ab~`u16`$",
         b"2~ab~`U8`$",
         b"2~ab~`u8 `$",
         b"2~ab~` u8`$",
+        b"2~ab~`\x00u8`$",
         b"2~ab~`u`$",
         b"2~ab~``$",
         b"2~ab~`u16bee`$",
