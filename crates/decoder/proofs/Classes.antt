@@ -13,7 +13,7 @@ use Rattle.format.specs.Byte.{Class, classOf, classCode, hasClass}
 use Rattle.format.specs.Lex.{lex, itemOf}
 use Rattle.lexer.specs.Integer.{withSign}
 use Rattle.lexer.proofs.Bytes.{has, digit-range}
-use Rattle.items.specs.Readers.{begunItem, begunBy}
+use Rattle.literals.specs.Readers.{begunItem, begunBy}
 
 -- the classes by their numbers
 classes : List Class

@@ -18,9 +18,9 @@ use Rattle.table.specs.Words.{clearedFrom}
 use Rattle.table.proofs.Cleared.{cleared-rows}
 use Rattle.lexer.proofs.Bytes.{byte-at}
 use Rattle.decoder.specs.declared.Decoded.the-variants as Decoded
-use Rattle.items.specs.declared.state.State.{State}
-use Rattle.items.specs.declared.state.Answer.the-variants.{More, Done, Refused}
-use Rattle.items.specs.Held.{machineOf, turn, taken}
+use Rattle.machine.specs.declared.state.State.{State}
+use Rattle.machine.specs.declared.state.Answer.the-variants.{More, Done, Refused}
+use Rattle.machine.specs.Held.{machineOf, turn, taken}
 use Rattle.decoder.specs.Run.{leftAs, leftBy}
 use Rattle.decoder.proofs.Turns.{Before, refuses, accepts, goes-after, startState, start-machine, start-before}
 

@@ -26,9 +26,9 @@ use Rattle.format.proofs.Decoded.{rows-in}
 use Rattle.format.proofs.TableRows.{length-rows}
 use Rattle.table.specs.Words.{lastFirst}
 use Rattle.table.proofs.Rows.{length-lastFirst, getD-zeros}
-use Rattle.items.specs.declared.state.State.{State}
-use Rattle.items.specs.declared.state.Answer.the-variants.{More, Done, Refused}
-use Rattle.items.specs.Held.{Ready, registerIn, machineOf, turn, after, limited, taken}
+use Rattle.machine.specs.declared.state.State.{State}
+use Rattle.machine.specs.declared.state.Answer.the-variants.{More, Done, Refused}
+use Rattle.machine.specs.Held.{Ready, registerIn, machineOf, turn, after, limited, taken}
 use Rattle.decoder.proofs.Within.{Within, skipped}
 
 -- a test of room that did not refuse

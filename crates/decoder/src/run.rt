@@ -8,7 +8,7 @@ ghost use Rattle.format.specs.Byte.{classOf, classCode};
 ghost use Rattle.format.specs.Lex.{lex};
 ghost use Rattle.format.specs.Machine as M;
 ghost use Rattle.format.specs.Rows.{rowValues};
-ghost use Rattle.items.specs.Held.{Ready, turn, taken};
+ghost use Rattle.machine.specs.Held.{Ready, turn, taken};
 ghost use Rattle.decoder.specs.Run.{leftAs, leftBy};
 use crate::Decoded;
 use format::Depth;
@@ -18,16 +18,16 @@ use format::byte;
 use format::class;
 use format::kind;
 use format::refusal;
-use items::binary;
-use items::end;
-use items::list;
-use items::number;
-use items::register;
-use items::state::Answer;
-use items::state::State;
-use items::text;
-use items::tuple;
-use items::white;
+use literals::binary;
+use literals::number;
+use literals::text;
+use machine::state::Answer;
+use machine::state::State;
+use operators::end;
+use operators::list;
+use operators::register;
+use operators::tuple;
+use operators::white;
 
 // One item, whose first byte is b. `classes` is the class table.
 fn step(

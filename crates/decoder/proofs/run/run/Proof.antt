@@ -12,8 +12,8 @@ use Rattle.format.specs.declared.Offset.{Offset}
 use Rattle.format.specs.declared.Row.{Row as RowNumber}
 use Rattle.decoder.specs.declared.Decoded.the-variants.{Accepted}
 use Rattle.decoder.specs.declared.Decoded.the-variants as Decoded
-use Rattle.items.specs.declared.state.State.{State}
-use Rattle.items.specs.declared.state.Answer.the-variants.{More, Done, Refused}
+use Rattle.machine.specs.declared.state.State.{State}
+use Rattle.machine.specs.declared.state.Answer.the-variants.{More, Done, Refused}
 use Rattle.decoder.specs.Run.{leftAs, leftBy}
 use Rattle.decoder.proofs.Loop.{Going, chain, starts, over, byte-here, goes-on, done, stopped}
 use Rattle.decoder.proofs.run.run.Statement.{statement}

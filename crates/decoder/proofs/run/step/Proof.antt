@@ -9,10 +9,10 @@ use Rattle.format.specs.Byte.{Class, classOf, classCode}
 use Rattle.format.specs.Lex.{lex, itemOf}
 use Rattle.format.specs.Rows.{rowRoom}
 use Rattle.format.specs.Answer.{tables}
-use Rattle.items.specs.Held.{Ready}
+use Rattle.machine.specs.Held.{Ready}
 use Rattle.decoder.proofs.Classes.{lex-of, only-comma, integer-lex, integer-first}
-use Rattle.items.proofs.Spans.{atoms, strings}
-use Rattle.items.proofs.Steps.{stray}
+use Rattle.literals.proofs.Spans.{atoms, strings}
+use Rattle.operators.proofs.Steps.{stray}
 use Rattle.decoder.proofs.run.step.Statement.{statement}
 use Rattle.decoder.proofs.run.step.Tie as tie
 

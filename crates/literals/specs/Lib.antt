@@ -1,0 +1,2 @@
+-- What the items make of what the readers answer.
+pub mod Readers
