@@ -1,12 +1,12 @@
--- `demands::round_trip` meets its contract: what `text::write` and `decoder::decode` promise, one after the other.
+-- `claims::round_trip` meets its contract: what `text::write` and `decoder::decode` promise, one after the other.
 use Prim.Native.Nat.{_≤_}
 use mathlib.Core.Path.{refl, sym}
 use lib.ListN.{length}
 use lib.Seq.{length-take-le}
 use Rattle.demands.proofs.Demand2.{bytes-fit, trip-refused, trip-read}
 use borrow.Author.Needs.{needs}
-use Rattle.demands.proofs.round_trip.Statement.{statement}
-use Rattle.demands.proofs.round_trip.Tie as tie
+use Rattle.claims.proofs.round_trip.Statement.{statement}
+use Rattle.claims.proofs.round_trip.Tie as tie
 
 -- back to the decoding, to the bytes written, to the writing, on either way
 abbrev decoded : (c : tie.After-read-answer) → tie.After-decode

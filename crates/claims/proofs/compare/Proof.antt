@@ -1,8 +1,8 @@
--- `demands::compare` meets its contract: demand 1 follows from what `comparison::compare` promises.
+-- `claims::compare` meets its contract: demand 1 follows from what `comparison::compare` promises.
 use Rattle.demands.proofs.Demand1.{demand1-compare}
 use borrow.Author.Needs.{needs}
-use Rattle.demands.proofs.compare.Statement.{statement}
-use Rattle.demands.proofs.compare.Tie as tie
+use Rattle.claims.proofs.compare.Statement.{statement}
+use Rattle.claims.proofs.compare.Tie as tie
 
 compare-requires : tie.Need-compare-requires
 compare-requires c κs = search needs

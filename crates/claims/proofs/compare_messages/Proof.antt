@@ -1,9 +1,9 @@
--- `demands::compare_messages` meets its contract: what `decoder::decode` promises, twice, and what `comparison::compare` promises.
+-- `claims::compare_messages` meets its contract: what `decoder::decode` promises, twice, and what `comparison::compare` promises.
 use mathlib.Core.Path.{_∙_}
 use Rattle.demands.proofs.Demand3.{first-refused, second-refused, both-accepted}
 use borrow.Author.Needs.{needs}
-use Rattle.demands.proofs.compare_messages.Statement.{statement}
-use Rattle.demands.proofs.compare_messages.Tie as tie
+use Rattle.claims.proofs.compare_messages.Statement.{statement}
+use Rattle.claims.proofs.compare_messages.Tie as tie
 
 -- back to the first decoding and to the second, on either way
 abbrev first : (c : tie.At-match-keys1) → tie.After-decode

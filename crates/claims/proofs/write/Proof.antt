@@ -1,8 +1,8 @@
--- `demands::write` meets its contract: demand 1 follows from what `text::write` promises.
+-- `claims::write` meets its contract: demand 1 follows from what `text::write` promises.
 use Rattle.demands.proofs.Demand1.{demand1-write}
 use borrow.Author.Needs.{needs}
-use Rattle.demands.proofs.write.Statement.{statement}
-use Rattle.demands.proofs.write.Tie as tie
+use Rattle.claims.proofs.write.Statement.{statement}
+use Rattle.claims.proofs.write.Tie as tie
 
 write-requires : tie.Need-write-requires
 write-requires c κs = search needs

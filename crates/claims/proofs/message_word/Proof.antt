@@ -1,8 +1,8 @@
--- `demands::message_word` meets its contract: what `decoder::decode` promises, and what `words::read_word` promises.
+-- `claims::message_word` meets its contract: what `decoder::decode` promises, and what `words::read_word` promises.
 use Rattle.demands.proofs.SensorWords.{not-decoded, decoded}
 use borrow.Author.Needs.{needs}
-use Rattle.demands.proofs.message_word.Statement.{statement}
-use Rattle.demands.proofs.message_word.Tie as tie
+use Rattle.claims.proofs.message_word.Statement.{statement}
+use Rattle.claims.proofs.message_word.Tie as tie
 
 -- back to the decoding, on either way
 abbrev decoding : (c : tie.At-match-keys1) → tie.After-decode

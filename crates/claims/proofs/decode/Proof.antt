@@ -1,9 +1,9 @@
--- `demands::decode` meets its contract: the demands follow from what `decoder::decode` promises.
+-- `claims::decode` meets its contract: the demands follow from what `decoder::decode` promises.
 use Rattle.demands.proofs.Demand1.{demand1}
 use Rattle.demands.proofs.Demand2.{demand2}
 use borrow.Author.Needs.{needs}
-use Rattle.demands.proofs.decode.Statement.{statement}
-use Rattle.demands.proofs.decode.Tie as tie
+use Rattle.claims.proofs.decode.Statement.{statement}
+use Rattle.claims.proofs.decode.Tie as tie
 
 decode-requires : tie.Need-decode-requires
 decode-requires c κs = search needs
