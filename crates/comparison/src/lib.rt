@@ -11,7 +11,6 @@ ghost use Rattle.comparison.specs.Classes.{side, termIn, sameTerm};
 use format::Row;
 use format::bound;
 use format::refusal;
-use table::sound;
 
 mod classes;
 mod same;

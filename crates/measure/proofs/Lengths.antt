@@ -24,7 +24,7 @@ use Rattle.format.proofs.TableRows as R
 use Rattle.format.proofs.TableRows.{length-rows, judged}
 use Rattle.table.specs.Words.{rowIn}
 use Rattle.table.proofs.Rows.{row-of}
-use Rattle.table.proofs.Judged as J
+use Rattle.sound.proofs.Judged as J
 use Rattle.measure.specs.Lengths.{textLength, named, below, ownLength, total, rowLength, longest, capped, lengthIn, Measured, lengthsAfter}
 use Rattle.leaves.proofs.Leaves.{length-after, length-between, length-quoted}
 

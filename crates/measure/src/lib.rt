@@ -8,7 +8,6 @@ ghost use Rattle.format.specs.Rows.{rowsOf, rowRoom};
 ghost use Rattle.format.specs.Sound.{soundRows};
 ghost use Rattle.measure.specs.Lengths.{Measured, lengthsAfter};
 use format::Row;
-use table::sound;
 
 pub mod length;
 

@@ -6,9 +6,3 @@ pub mod Rows
 pub mod Cleared
 -- a tuple's rows, as the code stores them
 pub mod Tuple
--- quoted bytes, judged from left to right
-pub mod Spelled
--- a row judged in two parts
-pub mod Parts
--- rows, judged one after the other
-pub mod Judged

@@ -13,8 +13,6 @@ use format::Row;
 use format::bound;
 use format::kind;
 
-pub mod sound;
-
 // The words of a row: its kind and the other three.
 pub struct RowWords {
     pub kind: u32,

@@ -13,7 +13,6 @@ ghost use Rattle.text.specs.Answers.{writtenAs, writeRows};
 use format::Row;
 use format::bound;
 use format::refusal;
-use table::sound;
 
 mod count;
 mod room;

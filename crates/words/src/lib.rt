@@ -17,7 +17,6 @@ use format::bound;
 use format::kind;
 use format::refusal;
 use table::RowWords;
-use table::sound;
 
 mod formats;
 mod join;

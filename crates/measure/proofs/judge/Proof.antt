@@ -4,7 +4,7 @@ use mathlib.Core.Path.{refl, sym, _∙_}
 use native.Mathlib.Omega.{arith}
 use lib.ListN.{length}
 use borrow.Author.Tests.{not-true, not-false}
-use Rattle.table.proofs.Parts.{words-fail, text-fails, both-pass}
+use Rattle.sound.proofs.Parts.{words-fail, text-fails, both-pass}
 use Rattle.measure.proofs.Lengths as laws
 use Rattle.measure.proofs.judge.Statement.{statement}
 use Rattle.measure.proofs.judge.Tie as tie
