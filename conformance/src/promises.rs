@@ -3,7 +3,9 @@
 
 /// The crates that the comment line `# inside: ..` of crates.txt names.
 pub fn inside(list: &str) -> Vec<&str> {
-    let named = list.lines().filter_map(|line| line.strip_prefix("# inside:"));
+    let named = list
+        .lines()
+        .filter_map(|line| line.strip_prefix("# inside:"));
     named.flat_map(str::split_whitespace).collect()
 }
 
@@ -76,8 +78,10 @@ impl<'a> Head<'a> {
             found.push(format!("{} has no ensures", self.name));
         }
         for buffer in self.lent() {
-            let exit = format!("({buffer} .exit)");
-            if !self.ensures.iter().any(|clause| clause.contains(&exit)) {
+            // a name with an underscore stands in quotes there
+            let exits = [format!("({buffer} .exit)"), format!("(«{buffer}» .exit)")];
+            let named = |clause: &&str| exits.iter().any(|exit| clause.contains(exit));
+            if !self.ensures.iter().any(|clause| named(clause)) {
                 found.push(format!("{} says nothing of {buffer} at exit", self.name));
             }
         }

@@ -178,12 +178,22 @@ fn long_terms_are_compared() {
     }
 }
 
-/// Full tables on both sides: the deepest list, and the same with another item at its bottom.
+/// Deep lists, no two rows of which are the same, and one with another item at its bottom. The time grows with the square of their rows.
 #[test]
-fn the_deepest_lists_are_compared() {
-    let [Full { message, .. }, ..] = fullest(ROWS);
+fn deep_lists_are_compared() {
+    let [Full { message, .. }, ..] = fullest(ROWS / 8);
     let mut checker = Checker::new(4);
     assert_eq!(compare(&mut checker, &message, &message, LARGEST), 1);
     let other = [b"{}", &message[1..]].concat();
+    assert_eq!(compare(&mut checker, &message, &other, LARGEST), 0);
+}
+
+/// Full tables on both sides: rows that are all the same, and the last of them another.
+#[test]
+fn full_tables_are_compared() {
+    let rounds = |last: &str| [&"1>a".repeat(ROWS - 1), last, "a$"].concat().into_bytes();
+    let mut checker = Checker::new(5);
+    let [message, other] = ["1>a", "2>a"].map(rounds);
+    assert_eq!(compare(&mut checker, &message, &message, LARGEST), 1);
     assert_eq!(compare(&mut checker, &message, &other, LARGEST), 0);
 }

@@ -34,10 +34,16 @@ fn every_public_function_keeps_the_rule_of_its_crate() {
             let source = read(&path);
             functions += source.matches("\npub fn ").count();
             let said = faults(&source, inner.contains(name));
-            found.extend(said.iter().map(|fault| format!("{}: {fault}", path.display())));
+            found.extend(
+                said.iter()
+                    .map(|fault| format!("{}: {fault}", path.display())),
+            );
         }
     }
     assert!(found.is_empty(), "{}", found.join("\n"));
     assert!(functions > 0, "no public function was found");
-    assert!(inner.iter().all(|name| names.contains(name)), "crates.txt names an inside crate that it does not list");
+    assert!(
+        inner.iter().all(|name| names.contains(name)),
+        "crates.txt names an inside crate that it does not list"
+    );
 }
