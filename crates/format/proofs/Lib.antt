@@ -1,4 +1,4 @@
--- The theorems about the definitions; README.md lists them by number.
+-- The theorems about the definitions; docs/THEOREMS.md lists them by number.
 
 -- laws of tests, lists and tables
 pub mod Tests

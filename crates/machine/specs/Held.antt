@@ -48,7 +48,7 @@ pub data Turn : Type 0 where
   ends : ℕ → Tables → Turn
   stops : ℕ → ℕ → Tables → Turn
 
--- as a function of this crate answers it, with the tables that it leaves
+-- as an item answers it, with the tables that it leaves
 unfoldable pub turn : Answer → Tables → Turn
 turn (More s) t = goes (s .at .0) (s .next .0) (lastFirst (t .stack) (s .depth .0)) (lastFirst (t .marks) (s .marks)) (registerIn (t .registers)) (rowsIn (t .rows) (rowsOf (s .next .0) (t .rows))) (past t (s .next .0) (s .depth .0) (s .marks))
 turn (Done root) t = ends (root .0) t
