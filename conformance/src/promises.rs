@@ -92,7 +92,7 @@ impl<'a> Head<'a> {
     fn lent(&self) -> Vec<&'a str> {
         let each = self.parameters.split(['(', ',']);
         let typed = each.filter_map(|parameter| parameter.split_once(':'));
-        let lent = typed.filter(|(_, kind)| kind.trim_start().starts_with("&mut "));
+        let lent = typed.filter(|(_, kind)| kind.contains('&') && kind.contains("mut "));
         lent.map(|(name, _)| name.trim()).collect()
     }
 }

@@ -30,6 +30,7 @@ pub record Tables : Type 0 where
   pub marks : List ℕ
   pub registers : List ℕ
 
+-- the four of them
 abbrev pub tables : List ℕ → List ℕ → List ℕ → List ℕ → Tables
 tables rows stack marks registers = record { rows = rows; stack = stack; marks = marks; registers = registers }
 

@@ -4,10 +4,9 @@ use Prim.Native.Char.{code}
 use mathlib.Core.Path.{_≡_, refl, ap, sym, subst, _∙_}
 use mathlib.Core.Bool.{Bool, true, false, _||_, _&&_, cond}
 use mathlib.Core.List.{List, [], _∷_, _++_}
-use native.Mathlib.Numerals.{add-one}
 use native.Mathlib.Omega.{arith}
-use lib.ListN.{length, getD, set, take, drop, length-set, length-append, drop-of-length-le}
-use lib.Seq.{getD-set-same, getD-set-other, take-suc, drop-cons, length-take-le}
+use lib.ListN.{length, set, take, drop, length-set, length-append, drop-of-length-le}
+use lib.Seq.{getD-set-same, getD-set-other}
 use lib.Dec.{eqb, leb, T}
 use borrow.Author.Tests.{eqb-true, eqb-false, ne-eqb, lt-leb}
 use Rattle.format.specs.Bound.{rowBound}
@@ -15,7 +14,7 @@ use Rattle.format.specs.Meaning.{itemsOf}
 use Rattle.format.specs.Term as T
 use Rattle.format.specs.Term.{Term, Terms, _then_}
 use Rattle.format.specs.Text.{naturalOn, between, textOn, itemsOn, fieldsOn, plain}
-use Rattle.format.specs.Rows.{Row, row, rowAt, spanOf, fieldsOf, isListKind, isTupleKind, integerKind, atomKind, stringKind, binaryKind, nilKind, consKind, endKind, fieldKind, tagKind, integerOfRow, rowsOf, rowRoom, termAt}
+use Rattle.format.specs.Rows.{Row, rowAt, spanOf, fieldsOf, isListKind, isTupleKind, integerKind, atomKind, stringKind, binaryKind, nilKind, consKind, endKind, fieldKind, tagKind, integerOfRow, rowsOf, rowRoom, termAt}
 use Rattle.format.specs.Sound.{soundRow, soundRest, soundRows}
 use Rattle.format.proofs.Sizes.{text-onto}
 use Rattle.format.proofs.Lists.{length-span}
@@ -266,12 +265,8 @@ module _ (message words : List ℕ) (used : ℕ) where
   module _ (fits : used ≤ rowRoom words) (i : ℕ) (h : i < used) (r : Row) (own : r ≡ rowIn words i) (lengths : List ℕ) where
     from-row : from i lengths
         ≡ cond (soundRow message i r && soundRest (r .kind) (rowAt (take i rows′) (r .second) .kind)) (from (i + 1) (set lengths i (capped (rowLength (lengthIn lengths) r)))) lengths
-    unfolding lengthsAfter rowAt
-    from-row =
-        let l : i < length rows′ = rw length-rows h in
-        let e : getD rows′ i (row 0 0 0 0) ≡ r = sym (own ∙ row-of words used i fits h) in
-        let n : length (take i rows′) ≡ i = length-take-le i rows′ (omega arith) in
-        rw (drop-cons rows′ i (row 0 0 0 0) l, add-one, take-suc rows′ i (row 0 0 0 0) l, n, e)
+    unfolding lengthsAfter
+    from-row = rw (J.rows-from message words used fits i h r own, J.rows-before message words used fits i h r own, J.count-before message words used fits i h r own)
 
     from-row-fails : soundRow message i r ≡ false → from i lengths ≡ lengths
     from-row-fails e = from-row ∙ rw e

@@ -2,7 +2,7 @@
 use Prim.Native.Nat.{ℕ, _+_, _≤_, _<_}
 use mathlib.Core.Path.{_≡_, refl, ap, sym, subst, _∙_}
 use mathlib.Core.Bool.{Bool, true, false, _&&_}
-use mathlib.Core.List.{List}
+use mathlib.Core.List.{List, [], _∷_, _++_}
 use native.Mathlib.Numerals.{add-one}
 use native.Mathlib.Omega.{arith}
 use lib.ListN.{length, getD, take, drop, drop-of-length-le}
@@ -31,13 +31,26 @@ module _ (message words : List ℕ) (used : ℕ) where
   ends i h = rw (drop-of-length-le rows {i = i} (rw length-rows h))
 
   module _ (fits : used ≤ rowRoom words) (i : ℕ) (h : i < used) (r : Row) (own : r ≡ rowIn words i) where
+    among : i < length rows
+    among = rw length-rows h
+
+    here : getD rows i (row 0 0 0 0) ≡ r
+    unfolding rowAt
+    here = sym (own ∙ row-of words used i fits h)
+
+    -- it comes after i rows, and before those from i + 1 on
+    pub rows-from : drop i rows ≡ r ∷ drop (i + 1) rows
+    rows-from = rw (drop-cons rows i (row 0 0 0 0) among, add-one, here)
+
+    pub rows-before : take (i + 1) rows ≡ take i rows ++ (r ∷ [])
+    rows-before = rw (add-one, take-suc rows i (row 0 0 0 0) among, here)
+
+    pub count-before : length (take i rows) ≡ i
+    count-before = length-take-le i rows (omega (arith, among))
+
     row-at : from i ≡ (soundRow message i r && soundRest (r .kind) (rowAt (take i rows) (r .second) .kind) && from (i + 1))
-    unfolding soundAfter rowAt
-    row-at =
-        let l : i < length rows = rw length-rows h in
-        let e : getD rows i (row 0 0 0 0) ≡ r = sym (own ∙ row-of words used i fits h) in
-        let n : length (take i rows) ≡ i = length-take-le i rows (omega arith) in
-        rw (drop-cons rows i (row 0 0 0 0) l, add-one, take-suc rows i (row 0 0 0 0) l, n, e)
+    unfolding soundAfter
+    row-at = rw (rows-from, rows-before, count-before)
 
     pub row-fails : soundRow message i r ≡ false → from i ≡ false
     row-fails e = rw (row-at, e)
