@@ -69,7 +69,7 @@ fn agree(seed: u64, message: &[u8], lent: Lent) -> u32 {
 #[test]
 fn messages_of_every_sort() {
     let mut met = BTreeSet::new();
-    for seed in 0..100_000 {
+    for seed in 0..40_000 {
         let noise = &mut Noise::new(seed);
         let message = any(noise);
         let lent = lengths(noise, message.len());

@@ -79,7 +79,7 @@ fn any_table(noise: &mut Noise) -> Made {
 #[test]
 fn writers_on_any_table() {
     let mut met = BTreeSet::new();
-    for seed in 0..60_000 {
+    for seed in 0..20_000 {
         let noise = &mut Noise::new(seed);
         let made = any_table(noise);
         let lengths = room(noise, made.used);
@@ -91,7 +91,7 @@ fn writers_on_any_table() {
 #[test]
 fn writers_on_decoded_messages() {
     let mut accepted = 0;
-    for seed in 0..30_000 {
+    for seed in 0..15_000 {
         let noise = &mut Noise::new(seed);
         let message = any(noise);
         let Some(made) = decoded(&message) else {
@@ -101,7 +101,7 @@ fn writers_on_decoded_messages() {
         agree(seed, made.table(), lengths);
         accepted += 1;
     }
-    assert!(accepted > 5_000);
+    assert!(accepted > 2_500);
 }
 
 #[test]
@@ -168,7 +168,7 @@ fn read_alike(table: Table, k: u64) -> u32 {
 #[test]
 fn words() {
     let mut met = BTreeSet::new();
-    for seed in 0..60_000 {
+    for seed in 0..20_000 {
         let noise = &mut Noise::new(seed);
         let mut made = any_table(noise);
         made.ask_tag(noise);
@@ -199,7 +199,7 @@ fn alike(noise: &mut Noise, one: &Value, other: &Value) -> bool {
 
 #[test]
 fn comparisons() {
-    for seed in 0..3_000 {
+    for seed in 0..1_000 {
         let noise = &mut Noise::new(seed);
         let size = 1 + noise.below(30);
         let value = Value::random(noise, size);

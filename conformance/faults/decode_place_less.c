@@ -1,4 +1,4 @@
-/* Noticed by: refusals traffic */
+/* Noticed by: refusals checker */
 /* A refusal's place is one byte too early. */
 #include "true.h"
 

@@ -1,4 +1,4 @@
-/* Noticed by: bench traffic */
+/* Noticed by: bench checker */
 /* The row table's last word, past the rows used, is not cleared. */
 #include "true.h"
 

@@ -1,4 +1,4 @@
-/* Noticed by: bench traffic */
+/* Noticed by: bench checker */
 /* A byte past the text is written. */
 #include "true.h"
 

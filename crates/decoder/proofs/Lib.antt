@@ -1,7 +1,5 @@
 -- From the items to the run and the whole answer.
 
--- the class of an item's first byte
-pub mod Classes
 -- the limits, an item's turn, and the loop over items
 pub mod Within
 pub mod Turns

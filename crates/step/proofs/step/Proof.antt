@@ -1,4 +1,4 @@
--- `decoder::run::step` meets its contract: the class of the first byte tells the item, and each item does what the machine's step does.
+-- `step::step` meets its contract: the class of the first byte tells the item, and each item does what the machine's step does.
 use Prim.Native.Nat.{_+_, _-_, _<_}
 use mathlib.Core.Path.{_≡_, sym, _∙_}
 use native.Mathlib.Omega.{arith}
@@ -10,11 +10,11 @@ use Rattle.format.specs.Lex.{lex, itemOf}
 use Rattle.format.specs.Rows.{rowRoom}
 use Rattle.format.specs.Answer.{tables}
 use Rattle.machine.specs.Held.{Ready}
-use Rattle.decoder.proofs.Classes.{lex-of, only-comma, integer-lex, integer-first}
+use Rattle.step.proofs.Classes.{lex-of, only-comma, integer-lex, integer-first}
 use Rattle.literals.proofs.Spans.{atoms, strings}
 use Rattle.operators.proofs.Steps.{stray}
-use Rattle.decoder.proofs.run.step.Statement.{statement}
-use Rattle.decoder.proofs.run.step.Tie as tie
+use Rattle.step.proofs.step.Statement.{statement}
+use Rattle.step.proofs.step.Tie as tie
 
 abbrev call : (c : tie.After-k) → tie.Start
 call c = c .before .before .before .before .before .before .before

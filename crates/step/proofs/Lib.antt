@@ -1,0 +1,2 @@
+-- the class of an item's first byte
+pub mod Classes
