@@ -315,7 +315,7 @@ fn three_answers(seed: u64) -> [u32; 3] {
 
 #[test]
 fn damaged_tables_agree() {
-    const TABLES: u64 = 80_000;
+    const TABLES: u64 = 50_000;
     let mut counts = [[0; 21]; 3];
     for seed in 0..TABLES {
         let answers = three_answers(seed);
