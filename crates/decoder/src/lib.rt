@@ -1,4 +1,5 @@
 //! The decoder: from a message's bytes to a row table, in lent memory alone.
+#![tactic(auto)]
 ghost use Rattle.std.specs.Prelude.{◌≡◌};
 ghost use Rattle.format.specs.Answer.{decode_answer, tables};
 ghost use Rattle.decoder.specs.Answers.{decoded_as};
@@ -9,7 +10,7 @@ mod run;
 mod settle;
 
 // Bytes consumed, root row and rows used; or a refusal's number and place.
-#[derive(Drop)]
+#[derive(Clone, Copy)]
 pub enum Decoded {
     Accepted(usize, Row, u32),
     Refused(u8, Offset),

@@ -1,4 +1,5 @@
 //! The UBF(A) format: the types that every crate shares, the bytes and their classes, and the paper's numbers.
+#![tactic(auto)]
 
 pub mod bound;
 pub mod byte;
@@ -7,15 +8,15 @@ pub mod kind;
 pub mod refusal;
 
 // The number of a row in a row table.
-#[derive(Drop)]
+#[derive(Clone, Copy)]
 pub struct Row(pub u32);
 
 // A place in a message, counted in bytes from its start.
-#[derive(Drop)]
+#[derive(Clone, Copy)]
 pub struct Offset(pub usize);
 
 // A stack depth: how many values lie below.
-#[derive(Drop)]
+#[derive(Clone, Copy)]
 pub struct Depth(pub usize);
 
 // Words of a row.

@@ -6,7 +6,7 @@ ghost use Rattle.table.specs.Words.{last_first};
 use format::{Depth, Offset, Row};
 
 // The place of the next item, the row that is made next, the stack's depth, and how many marks are noted.
-#[derive(Drop)]
+#[derive(Clone, Copy)]
 pub struct State {
     pub at: Offset,
     pub next: Row,

@@ -1,4 +1,5 @@
 //! Items with no bytes of their own to keep: white space, `{` and `}`, `#` and `&`, `>` and registers, `$`.
+#![tactic(auto)]
 
 pub mod end;
 pub mod list;

@@ -1,4 +1,6 @@
 //! The row table and the other tables of words: a row stored and read, the rows of a tuple, a table cleared.
+#![tactic(auto)]
+
 ghost use Rattle.std.specs.Prelude.{◌≡◌, [], ◌∷◌, ◌+◌, ◌*◌, ◌-◌, ◌≤◌, ◌<◌, length};
 ghost use Rattle.std.proofs.lemmas.List.Edits.{sets};
 ghost use Rattle.format.specs.Answer.{zeroed};
@@ -8,7 +10,7 @@ ghost use Rattle.table.specs.Words.{row_of, row_in, stored_rows, between, field_
 use format::{Depth, ROW_WORDS, Row, bound, kind};
 
 // The words of a row: its kind and the other three.
-#[derive(Drop)]
+#[derive(Clone, Copy)]
 pub struct RowWords {
     pub kind: u32,
     pub first: u32,

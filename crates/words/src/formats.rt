@@ -8,14 +8,14 @@ use crate::join::join;
 use format::Offset;
 
 // Byte order: most significant byte first, or last.
-#[derive(Drop)]
+#[derive(Clone, Copy)]
 pub(crate) enum Order {
     Big,
     Little,
 }
 
 // How words lie in their bytes.
-#[derive(Drop)]
+#[derive(Clone, Copy)]
 pub(crate) struct Layout {
     pub width: usize,
     pub signed: bool,
