@@ -1,12 +1,17 @@
-use Rattle.std.proofs.Common.{rules, ◌||◌, not, ◌≡◌, ℕ, ◌<◌, get_or, ◌+◌, ◌-◌, ◌*◌, ◌≤◌, length, ◌/◌, ◌%◌, Bool, true, false, nat_eq, nat_lt, List, [], ◌∷◌, ◌++◌, slice_set, bit_and, bit_or, Fits, w8, w32, w64, Bor, MutBor}
-use Rattle.format.specs.Byte as B
-use Rattle.format.specs.Byte.{class_of, class_code, has_class}
+-- `format::class::is_digit` meets its contract.
+use Prim.Native.Nat.{◌<◌}
+use mathlib.Core.Path.{refl}
+use borrow.Author.Rules.{rules}
+use borrow.Author.Tests.{le-leb, lt-leb}
+use Rattle.format.proofs.Classes.{digit-bytes}
 use Rattle.format.proofs.class.is_digit.Goals as goal
 
--- src/class.rt:329:9
 pub returns-then-b-lt-ZERO : goal.returns-then-b-lt-ZERO
-returns-then-b-lt-ZERO c = ?
+returns-then-b-lt-ZERO c =
+    let h : c.args.b < 256 = search rules in
+    rw (digit-bytes _ h, lt-leb _ _ c.if-b-lt-ZERO.true) refl
 
--- src/class.rt:325:1
 pub returns : goal.returns
-returns c = ?
+returns c =
+    let h : c.args.b < 256 = search rules in
+    rw (digit-bytes _ h, le-leb _ _ c.if-b-lt-ZERO.false) refl
