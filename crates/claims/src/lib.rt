@@ -1,6 +1,7 @@
 //! The demands, as contracts of functions. Each calls the library and promises what the demand says, from the library's own
 //! promises: crates/demands/specs has the statements.
 #![tactic(auto)]
+
 ghost use Rattle.std.specs.Prelude.{◌≡◌, ℕ, T, length};
 ghost use Rattle.format.specs.Answer.{decode_answer, write_answer, compare_answer, tables};
 ghost use Rattle.decoder.specs.Answers.{decoded_as};

@@ -1,5 +1,6 @@
 //! The comparison: whether the plain texts of two row tables' roots are the same bytes, on the shared rows, in lent memory alone.
 #![tactic(auto)]
+
 ghost use Rattle.std.specs.Prelude.{◌≡◌, ◌+◌, ◌≤◌, T, length};
 ghost use Rattle.format.specs.Answer.{zeroed, compare_answer};
 ghost use Rattle.format.specs.Bound.{message_bound};

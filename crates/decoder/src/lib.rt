@@ -1,5 +1,6 @@
 //! The decoder: from a message's bytes to a row table, in lent memory alone.
 #![tactic(auto)]
+
 ghost use Rattle.std.specs.Prelude.{◌≡◌};
 ghost use Rattle.format.specs.Answer.{decode_answer, tables};
 ghost use Rattle.decoder.specs.Answers.{decoded_as};

@@ -1,6 +1,7 @@
 //! The answers of the functions that join several of the library's (crates/claims). crates/demands/specs has the statements of the demands, one file for
 //! each, proofs/ their proofs from the library's own promises.
 #![tactic(auto)]
+
 ghost use Rattle.std.specs.Prelude.{◌≡◌};
 ghost use Rattle.demands.specs.Demand2.{reading, word_read};
 ghost use Rattle.demands.specs.Demand3.{verdict};

@@ -1,5 +1,6 @@
 //! The rows judged, and the lengths of their texts measured, without writing them.
 #![tactic(auto)]
+
 ghost use Rattle.std.specs.Prelude.{[], ◌≡◌, ◌≤◌, T, length};
 ghost use Rattle.format.specs.Rows.{rows_of, row_room};
 ghost use Rattle.format.specs.Sound.{sound_rows};

@@ -1,6 +1,7 @@
 //! Runs of plain bytes in quoted text: neither the quote nor a backslash (01, 'Bytes and items').
 //! A block counts its marks and does not stop at the first, so that the compiler can look at many bytes at once.
 #![tactic(auto)]
+
 ghost use Rattle.std.specs.Prelude.{true, ◌≡◌, ◌+◌, ◌≤◌, ◌<◌, length, get_or};
 ghost use Rattle.scan.specs.Plain.{is_mark, mark_count, plain_end, Plain};
 

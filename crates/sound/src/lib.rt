@@ -1,5 +1,6 @@
 //! The soundness check (01, 'Plain text', refusal 16): what reading a table back relies on, judged before it is read.
 #![tactic(auto)]
+
 ghost use Rattle.std.specs.Prelude.{true, false, ◌&&◌, [], ◌∷◌, ◌≡◌, ◌≤◌, ◌<◌, eqb, ltb};
 ghost use Rattle.format.specs.Rows.{cons_kind, field_kind, is_list_kind, is_tuple_kind, rows_of, row_room};
 ghost use Rattle.format.specs.Sound.{spelled, in_slice, spelled_in, count_fits, root_among, sound_rest, sound_rows, sound_table};

@@ -1,5 +1,6 @@
 //! The machine's step: the item that its first byte begins, told by the class of that byte.
 #![tactic(auto)]
+
 ghost use Rattle.std.specs.Prelude.{◌≡◌, ◌+◌, ◌≤◌, ◌<◌, length, drop, get_or};
 ghost use Rattle.format.specs.Answer.{tables};
 ghost use Rattle.format.specs.Bound.{message_bound};

@@ -1,5 +1,6 @@
 //! The writer: the plain text of a row table's root, in lent memory alone.
 #![tactic(auto)]
+
 ghost use Rattle.std.specs.Prelude.{◌≡◌, ◌&&◌, List, ℕ, ◌≤◌, T, length};
 ghost use Rattle.format.specs.Answer.{zeroed, write_answer};
 ghost use Rattle.format.specs.Bound.{message_bound};

@@ -1,6 +1,7 @@
 //! The C interface of include/ubfa.h: exported functions on numbers and lent slices. Each hands on to the library's function, which refuses bad lengths, and
 //! answers the paper's numbers and values.
 #![tactic(auto)]
+
 ghost use Rattle.std.specs.Prelude.{◌≡◌, List, ℕ, ◌≤◌};
 ghost use Rattle.format.specs.Answer.{Tables, decode_answer, write_answer, compare_answer, word_answer, tables};
 ghost use Rattle.format.specs.Bound.{message_bound};

@@ -1,5 +1,6 @@
 //! The program of 01: reads a message on standard input, and writes its plain text or its refusal, and a newline, on standard output.
 #![tactic(auto)]
+
 use crate::input::Input;
 use crate::respond::Response;
 use format::{Offset, refusal};

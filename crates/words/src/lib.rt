@@ -1,5 +1,6 @@
 //! Sensor words: word k of a sensor block (01's word block), in the byte order that its tag names.
 #![tactic(auto)]
+
 ghost use Rattle.std.specs.Prelude.{◌≡◌, ◌+◌, ◌*◌, ◌≤◌, ◌<◌, length};
 ghost use Rattle.format.specs.Answer.{word_answer};
 ghost use Rattle.format.specs.Rows.{binary_kind, tag_kind, span_of};

@@ -1,0 +1,10 @@
+-- `claims::decode` meets its contract: the demands follow from what `decoder::decode` promises.
+use Rattle.demands.proofs.Demand1.{demand1}
+use Rattle.demands.proofs.Demand2.{demand2}
+use Rattle.claims.proofs.decode.Goals as goal
+
+-- ASKED ['registers_after', 'decode_touches', 'decode_means']
+pub returns : goal.returns
+returns c =
+    let promise = c.decode.ensures in
+    (promise, (demand1 _ _ _ _ promise, demand2 _ _ _ _ promise))

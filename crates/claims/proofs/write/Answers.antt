@@ -1,0 +1,9 @@
+-- `claims::write` meets its contract: demand 1 follows from what `text::write` promises.
+use Rattle.demands.proofs.Demand1.{demand1_write}
+use Rattle.claims.proofs.write.Goals as goal
+
+-- ASKED ['output_after', 'write_touches']
+pub returns : goal.returns
+returns c =
+    let promise = c.write.ensures in
+    (promise, demand1_write _ _ _ _ _ _ _ _ _ promise)

@@ -1,0 +1,33 @@
+-- `comparison::classes::number_classes` meets its contract: the classes of the rows passed are known.
+use Prim.Native.Nat.{◌<◌}
+use mathlib.Core.Path.{refl, sym, ◌∙◌}
+use native.Mathlib.Omega.{arith}
+use lib.ListN.{length, length-set}
+use Rattle.comparison.specs.Classes.{side, class_list}
+use Rattle.comparison.proofs.Searches.{few, one_more, all_known}
+use Rattle.comparison.proofs.classes.number_classes.Goals as goal
+
+pub overflow_add-end : goal.overflow_add-end
+overflow_add-end c = omega (arith, (let a = c.args in (few (side a.message-a.now a.rows-a.now a.used-a) c.requires.0, few (side a.message-b.now a.rows-b.now a.used-b) c.requires.1)))
+
+pub loop-n-init : goal.loop-n-init
+unfolding class_list
+loop-n-init c = (omega arith, (refl, refl))
+
+-- ASKED ['sound', 'used_b_value', 'classes_value']
+pub class_of-found-requires : goal.class_of-found-requires
+class_of-found-requires c = ((c.requires.0, c.requires.1), ((c.requires.2 ∙ sym c.loop-n.invariant.1.0, c.loop-n-test.true), c.loop-n.invariant.1.1))
+
+pub overflow_add-n : goal.overflow_add-n
+overflow_add-n c = omega (arith, (let a = c.args in (few (side a.message-a.now a.rows-a.now a.used-a) c.requires.0, few (side a.message-b.now a.rows-b.now a.used-b) c.requires.1)))
+
+pub loop-n-preserved : goal.loop-n-preserved
+loop-n-preserved c =
+    let inside : c.loop-n.n < length c.loop-n.classes = omega arith in
+    (omega arith, (length-set c.loop-n.classes c.loop-n.n c.class_of-found.result.0 ∙ c.loop-n.invariant.1.0, one_more _ _ _ _ inside c.loop-n.invariant.1.1 c.class_of-found.ensures))
+
+pub shape_of-classes : goal.shape_of-classes
+shape_of-classes c = c.loop-n.invariant.1.0
+
+pub returns : goal.returns
+returns c = all_known _ _ _ _ (omega arith) c.loop-n-test.false (c.loop-n.invariant.1.0 ∙ sym c.requires.2) c.loop-n.invariant.1.1

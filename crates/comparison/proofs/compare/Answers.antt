@@ -1,0 +1,21 @@
+-- `comparison::compare` meets its contract: 1, 2, or what the rest answers, with the scratch cleared.
+use native.Mathlib.Omega.{arith}
+use Rattle.comparison.proofs.Answered.{over_first, over-second, short-scratch, cleared}
+use Rattle.comparison.proofs.compare.Goals as goal
+
+-- ASKED ['scratch_after', 'fact']
+pub returns-then-message_a-gt-MESSAGE_BYTES : goal.returns-then-message_a-gt-MESSAGE_BYTES
+returns-then-message_a-gt-MESSAGE_BYTES c = over_first _ _ _ _ _ _ _ _ _ c.if-message_a-gt-MESSAGE_BYTES.true
+
+-- ASKED ['scratch_after', 'fact']
+pub returns-then-message_b-gt-MESSAGE_BYTES : goal.returns-then-message_b-gt-MESSAGE_BYTES
+returns-then-message_b-gt-MESSAGE_BYTES c = over-second _ _ _ _ _ _ _ _ _ c.if-message_a-gt-MESSAGE_BYTES.false c.if-message_b-gt-MESSAGE_BYTES.true
+
+-- ASKED ['scratch_after', 'fact']
+pub returns-then-scratch-rows_of_both : goal.returns-then-scratch-rows_of_both
+returns-then-scratch-rows_of_both c = short-scratch _ _ _ _ _ _ _ _ _ c.if-message_a-gt-MESSAGE_BYTES.false c.if-message_b-gt-MESSAGE_BYTES.false (omega arith)
+
+-- ASKED ['scratch_after', 'fact']
+-- WARN compare_tables-answer.ensures whole: ['scratch_value', 'fact']
+pub returns : goal.returns
+returns c = cleared _ _ _ _ _ _ _ _ _ _ _ _ c.compare_tables-answer.auto.1.1.1.1.1.1.1.1.0 c.clear.ensures c.compare_tables-answer.ensures

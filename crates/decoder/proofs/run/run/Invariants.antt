@@ -1,0 +1,12 @@
+-- `decoder::run::run` meets its contract: the run from where the loop stands is the whole run.
+use Prim.Native.Nat.{◌-◌}
+use lib.ListN.{length}
+use Rattle.format.specs.Answer.{tables}
+use Rattle.decoder.proofs.Loop.{Going}
+use Rattle.decoder.proofs.run.run.Given as goal
+
+abbrev pub invariant-loop-classes : goal.invariant-loop-classes
+invariant-loop-classes l = Going l.message (tables l.initial.rows l.rows l.initial.stack l.stack) (tables l.initial.registers l.registers l.classes l.initial.s) l.s
+
+abbrev pub decreases-loop-classes : goal.decreases-loop-classes
+decreases-loop-classes l = length l.message - l.s.at.0

@@ -1,0 +1,22 @@
+-- `leaves::leaf::put_bytes` meets its contract: the count is stored, where there is one, and the span between its two quotes after it.
+use mathlib.Core.Path.{refl}
+use native.Mathlib.Omega.{arith}
+use Rattle.leaves.proofs.Leaves.{length-bytes, stored_bytes}
+use Rattle.leaves.proofs.leaf.put_bytes.Goals as goal
+
+pub put_count-quote-requires : goal.put_count-quote-requires
+put_count-quote-requires c =
+    let given = c.args in
+    omega (arith, length-bytes given.message.now given.k given.start.0 given.n refl)
+
+-- ASKED ['n_in_bounds', 'n_in_bounds_2']
+pub put_quoted-requires : goal.put_quoted-requires
+put_quoted-requires c =
+    let given = c.args in
+    (c.requires.n_in_bounds, omega (arith, length-bytes given.message.now given.k given.start.0 given.n c.quote_of.ensures))
+
+-- ASKED ['output_after', 'value']
+-- WARN put_count-quote.ensures whole: ['output_after', 'value']
+-- WARN put_quoted.ensures whole: ['output_after', 'value']
+pub returns : goal.returns
+returns c = stored_bytes _ _ _ _ c.quote_of.ensures _ _ c.put_count-quote.ensures c.put_quoted.ensures

@@ -1,0 +1,13 @@
+-- `leaves::leaf::put_halves` meets its contract: the sign and the magnitude have the integer's text.
+use mathlib.Core.Path.{ap}
+use native.Mathlib.Omega.{arith}
+use lib.ListN.{length}
+use Rattle.leaves.proofs.leaf.put_halves.Goals as goal
+
+pub put_integer-requires : goal.put_integer-requires
+put_integer-requires c = omega (arith, ap length c.from_halves-z.ensures)
+
+-- ASKED ['output_after', 'value']
+-- WARN put_integer.ensures whole: ['output_after', 'value']
+pub returns : goal.returns
+returns c = rw c.from_halves-z.ensures at c.put_integer.ensures

@@ -1,0 +1,11 @@
+-- `leaves::span::store_block` meets its contract: what is left of the block, stored into the output as it is, is the block stored into the output as
+-- it was at first.
+use Prim.Native.Nat.{◌-◌}
+use Rattle.leaves.proofs.Spans as laws
+use Rattle.leaves.proofs.span.store_block.Given as goal
+
+abbrev pub invariant-loop-i : goal.invariant-loop-i
+invariant-loop-i l = laws.Copying l.at l.output l.initial.output l.initial.i l.i
+
+abbrev pub decreases-loop-i : goal.decreases-loop-i
+decreases-loop-i l = 8 - l.i

@@ -1,0 +1,45 @@
+-- `lexer::integer::read_short` meets its contract: the integer from a place on is the integer from the first place on.
+use Prim.Native.Nat.{◌+◌, ◌*◌, ◌-◌}
+use mathlib.Core.Bool.{true, false}
+use mathlib.Core.Path.{◌≡◌, refl, sym, ◌∙◌}
+use native.Mathlib.Omega.{arith}
+use lib.ListN.{drop, get_or}
+use borrow.Author.Tests.{not-true, not-false}
+use Rattle.lexer.specs.declared.integer.Begun.TheVariants as Begun
+use Rattle.lexer.specs.Integer.{integer_from}
+use Rattle.lexer.proofs.Bytes.{digit_range}
+use Rattle.lexer.proofs.Integers as laws
+use Rattle.lexer.proofs.integer.read_short.Goals as goal
+
+passed : (c : tie.Else1 invariant-loop decreases-loop)
+    → (let message = (head c).before.before.args.message.now in let i = (head c).loop.i in let value = (head c).loop.value in
+    integer_from (Begun.Digits false (value * 10 + (get_or message i 0 - 48))) (i + 1) (drop (i + 1) message)
+    ≡ integer_from (Begun.Digits false (head c).before.before.args.v) (head c).before.before.args.from.0 (drop (head c).before.before.args.from.0 message))
+passed c = laws.short-passes _ _ _ c.before.before.before.loop-test.true (digit c) ∙ (head c).loop.invariant.1
+
+pub loop-i-init : goal.loop-i-init
+loop-i-init c = (c.requires, refl)
+
+pub returns-then-not-is_digit : goal.returns-then-not-is_digit
+returns-then-not-is_digit c = laws.short-stops _ _ _ c.loop-i-test.true (sym c.is_digit.ensures ∙ not-true _ c.if-not-is_digit.true-raw) c.loop-i.invariant.0 ∙ c.loop-i.invariant.1
+
+pub overflow_mul-value : goal.overflow_mul-value
+overflow_mul-value c = omega (arith, c.loop-i.invariant.0)
+
+pub overflow_sub-value : goal.overflow_sub-value
+overflow_sub-value c = omega (arith, digit_range _ ((sym c.is_digit.ensures ∙ not-false _ c.if-not-is_digit.false-raw)))
+
+pub overflow_cast-value : goal.overflow_cast-value
+overflow_cast-value c = omega (arith, digit_range _ ((sym c.is_digit.ensures ∙ not-false _ c.if-not-is_digit.false-raw)))
+
+pub overflow_add-value : goal.overflow_add-value
+overflow_add-value c = omega (arith, c.loop-i.invariant.0, digit_range _ ((sym c.is_digit.ensures ∙ not-false _ c.if-not-is_digit.false-raw)))
+
+pub returns-then-value-gt-SMALL : goal.returns-then-value-gt-SMALL
+returns-then-value-gt-SMALL c = c.read_long.ensures ∙ passed c
+
+pub loop-i-preserved : goal.loop-i-preserved
+loop-i-preserved c = (c.if-value-gt-SMALL.false, passed c)
+
+pub returns : goal.returns
+returns c = laws.short-ends _ _ _ c.loop-i-test.false c.loop-i.invariant.0 ∙ c.loop-i.invariant.1

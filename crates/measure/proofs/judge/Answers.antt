@@ -1,0 +1,57 @@
+-- `measure::judge` meets its contract: the rows passed are judged, and measured where all rows are sound.
+use mathlib.Core.Path.{refl, sym, ◌∙◌}
+use native.Mathlib.Omega.{arith}
+use borrow.Author.Tests.{not-true, not-false}
+use Rattle.sound.proofs.Parts.{words_fail, text_fails, both-pass}
+use Rattle.measure.proofs.Lengths as laws
+use Rattle.measure.proofs.judge.Goals as goal
+
+pub loop-i-init : goal.loop-i-init
+loop-i-init c = laws.begins _ _ _ (omega arith) _ refl
+
+pub overflow_cast-n : goal.overflow_cast-n
+overflow_cast-n c = omega (arith, laws.row_number _ _ _ _ _ _ c.loop-i.invariant c.loop-i-test.true)
+
+-- ASKED ['value', 'measured', 'lengths_after']
+pub returns-then-not-sound_words : goal.returns-then-not-sound_words
+returns-then-not-sound_words c =
+    let unsound = words_fail _ _ _ (sym c.sound_words.ensures ∙ not-true _ c.if-not-sound_words.true-raw) in
+    laws.row_fails _ _ _ _ _ _ c.loop-i.invariant c.loop-i-test.true c.read_row-words.ensures unsound
+
+-- ASKED ['value', 'measured', 'lengths_after']
+pub returns-then-not-sound_text : goal.returns-then-not-sound_text
+returns-then-not-sound_text c =
+    let words = sym c.sound_words.ensures ∙ not-false _ c.if-not-sound_words.false-raw in
+    let unsound = text_fails _ _ _ words (sym c.sound_text.ensures ∙ not-true _ c.if-not-sound_text.true-raw) in
+    laws.row_fails _ _ _ _ _ _ c.loop-i.invariant c.loop-i-test.true c.read_row-words.ensures unsound
+
+pub rest_fits-requires : goal.rest_fits-requires
+rest_fits-requires c =
+    let words = sym c.sound_words.ensures ∙ not-false _ c.if-not-sound_words.false-raw in
+    let sound = both-pass _ _ _ words (sym c.sound_text.ensures ∙ not-false _ c.if-not-sound_text.false-raw) in
+    laws.rest-room _ _ _ _ _ _ c.loop-i.invariant c.loop-i-test.true c.read_row-words.ensures sound
+
+-- ASKED ['value', 'measured', 'lengths_after']
+pub returns-then-not-rest_fits : goal.returns-then-not-rest_fits
+returns-then-not-rest_fits c =
+    let words = sym c.sound_words.ensures ∙ not-false _ c.if-not-sound_words.false-raw in
+    let sound = both-pass _ _ _ words (sym c.sound_text.ensures ∙ not-false _ c.if-not-sound_text.false-raw) in
+    let rest = sym c.rest_fits.ensures ∙ not-true _ c.if-not-rest_fits.true-raw in
+    laws.rest_fails _ _ _ _ _ _ c.loop-i.invariant c.loop-i-test.true c.read_row-words.ensures sound rest
+
+pub row_length-bytes-requires : goal.row_length-bytes-requires
+row_length-bytes-requires c =
+    let words = sym c.sound_words.ensures ∙ not-false _ c.if-not-sound_words.false-raw in
+    let sound = both-pass _ _ _ words (sym c.sound_text.ensures ∙ not-false _ c.if-not-sound_text.false-raw) in
+    laws.names-before _ _ _ _ _ _ c.loop-i.invariant c.loop-i-test.true c.read_row-words.ensures sound
+
+pub loop-i-preserved : goal.loop-i-preserved
+loop-i-preserved c =
+    let words = sym c.sound_words.ensures ∙ not-false _ c.if-not-sound_words.false-raw in
+    let sound = both-pass _ _ _ words (sym c.sound_text.ensures ∙ not-false _ c.if-not-sound_text.false-raw) in
+    let rest = sym c.rest_fits.ensures ∙ not-false _ c.if-not-rest_fits.false-raw in
+    laws.next_row _ _ _ _ _ _ c.loop-i.invariant c.loop-i-test.true c.read_row-words.ensures sound rest c.row_length-bytes.ensures c.cap.ensures
+
+-- ASKED ['value', 'measured', 'lengths_after']
+pub returns : goal.returns
+returns c = laws.all_judged _ _ _ _ _ _ c.loop-i.invariant c.loop-i-test.false

@@ -1,0 +1,21 @@
+-- `sound::sound_table` meets its contract: its two tests and its call are the definition's three tests.
+use mathlib.Core.Path.{sym, ◌∙◌}
+use borrow.Author.Tests.{leb-true, not-true, not-false}
+use Rattle.format.specs.Sound.{count_fits, sound_table}
+use Rattle.sound.proofs.sound_table.Goals as goal
+
+pub returns-then-not-count_fits : goal.returns-then-not-count_fits
+unfolding sound_table
+returns-then-not-count_fits c = rw (sym c.count_fits.ensures ∙ not-true _ c.if-not-count_fits.true-raw)
+
+pub returns-then-not-root_among : goal.returns-then-not-root_among
+unfolding sound_table
+returns-then-not-root_among c = rw (sym c.count_fits.ensures ∙ not-false _ c.if-not-count_fits.false-raw, sym c.root_among.ensures ∙ not-true _ c.if-not-root_among.true-raw)
+
+pub sound_rows-requires : goal.sound_rows-requires
+unfolding count_fits
+sound_rows-requires c = leb-true _ _ (sym c.count_fits.ensures ∙ not-false _ c.if-not-count_fits.false-raw)
+
+pub returns : goal.returns
+unfolding sound_table
+returns c = rw (sym c.count_fits.ensures ∙ not-false _ c.if-not-count_fits.false-raw, sym c.root_among.ensures ∙ not-false _ c.if-not-root_among.false-raw) c.sound_rows.ensures

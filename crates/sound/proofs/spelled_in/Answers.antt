@@ -1,0 +1,17 @@
+-- `sound::spelled_in` meets its contract: past its test the span lies inside the slice, and its part is judged.
+use mathlib.Core.Path.{sym, ◌∙◌}
+use borrow.Author.Tests.{leb-true, not-true, not-false}
+use Rattle.format.specs.Sound.{in_slice, spelled_in}
+use Rattle.sound.proofs.Spelled.{by_end}
+use Rattle.sound.proofs.spelled_in.Goals as goal
+
+part-is-spelled-end : tie.Need-slice-bounds-is-spelled-end
+unfolding in_slice
+part-is-spelled-end c = leb-true _ _ (sym c.before.in-slice.ensures ∙ not-false _ c.if1.false)
+
+pub returns-then-not-in_slice : goal.returns-then-not-in_slice
+unfolding spelled_in
+returns-then-not-in_slice c = rw (sym c.in_slice.ensures ∙ not-true _ c.if-not-in_slice.true-raw)
+
+pub returns : goal.returns
+returns c = c.is_spelled.ensures ∙ by_end _ _ _ _ (sym c.in_slice.ensures ∙ not-false _ c.if-not-in_slice.false-raw)

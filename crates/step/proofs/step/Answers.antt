@@ -1,0 +1,94 @@
+-- `step::step` meets its contract: the class of the first byte tells the item, and each item does what the machine's step does.
+use Prim.Native.Nat.{◌+◌, ◌-◌}
+use mathlib.Core.Path.{◌≡◌, sym, ◌∙◌}
+use native.Mathlib.Omega.{arith}
+use lib.ListN.{drop, get_or}
+use Rattle.format.specs.Byte as B
+use Rattle.format.specs.Byte.{Class, class_of, class_code}
+use Rattle.format.specs.Lex.{lex, item_of}
+use Rattle.format.specs.Rows.{row_room}
+use Rattle.step.proofs.Classes.{lex_of, only_comma, integer-lex, integer-first}
+use Rattle.literals.proofs.Spans.{atoms, strings}
+use Rattle.operators.proofs.Steps.{stray}
+use Rattle.step.proofs.step.Goals as goal
+
+-- the item that a class's number stands for
+item : (c : tie.After-k) (k : Class) → get_or (call c).args.classes.now (call c).args.b 0 ≡ class_code k
+    → lex (call c).args.b (drop ((call c).args.s.at.0 + 1) (call c).args.message.now) ≡ item_of k (call c).args.b (drop ((call c).args.s.at.0 + 1) (call c).args.message.now)
+item c k e = lex_of k _ _ (sym (rule c) ∙ e)
+
+-- ASKED ['at_in_bounds', 'marks_in_bounds', 'depth_in_bounds', 'by_index']
+pub binary_item-requires : goal.binary_item-requires
+binary_item-requires c =
+    let held = (c.requires.ready.0) in
+    (omega arith, (omega arith, (omega arith, λ i l. omega (arith, held.values i l, held.used))))
+
+-- ASKED ['at_in_bounds', 'marks_in_bounds', 'depth_in_bounds', 'register_words_in_bounds', 'depth_bound']
+pub store_item-requires : goal.store_item-requires
+unfolding row_room
+store_item-requires c =
+    let held = (c.requires.ready.0) in
+    (search, (omega arith, (omega arith, (omega arith, λ l. omega (arith, held.values (c.args.s.depth.0 - 1) (omega arith), held.used)))))
+
+-- ASKED ['at_in_bounds', 'le_b']
+pub integer_item-requires : goal.integer_item-requires
+integer_item-requires c = (search, integer-first _ _ ((search)) ((c.requires.ready.1)) c.in_default-1.rest c.in-1.if-k-lt3-own.true)
+
+pub returns-in-0 : goal.returns-in-0
+unfolding item_of
+returns-in-0 c = rw (item c B.white c.in-0.is) (c.white_item.ensures _ _ ((c.requires.ready.0)))
+
+pub returns-in-3 : goal.returns-in-3
+unfolding item_of
+returns-in-3 c = rw (item c B.atom_quote c.in-3.is) (c.quoted_item.ensures _ _ _ ((c.requires.ready.0)) atoms)
+
+pub returns-in-4 : goal.returns-in-4
+unfolding item_of
+returns-in-4 c = rw (item c B.string_quote c.in-4.is) (c.quoted_item-in-4.ensures _ _ _ ((c.requires.ready.0)) strings)
+
+pub returns-in-5 : goal.returns-in-5
+unfolding item_of
+returns-in-5 c = rw (item c B.tag_quote c.in-5.is) (c.tag_item.ensures _ ((c.requires.ready.0)))
+
+pub returns-in-6 : goal.returns-in-6
+unfolding item_of
+returns-in-6 c = rw (item c B.comment_quote c.in-6.is) (c.comment_item.ensures _ ((c.requires.ready.0)))
+
+pub returns-in-7 : goal.returns-in-7
+unfolding item_of
+returns-in-7 c = rw (item c B.left_brace c.in-7.is) (c.open_item.ensures _ _ _ _ ((c.requires.ready.0)))
+
+pub returns-in-8 : goal.returns-in-8
+unfolding item_of
+returns-in-8 c = rw (item c B.right_brace c.in-8.is) (c.close_item.ensures _ _ ((c.requires.ready.0)))
+
+pub returns-in-9 : goal.returns-in-9
+unfolding item_of
+returns-in-9 c = rw (item c B.tilde c.in-9.is) (c.binary_item.ensures _ ((c.requires.ready.0)))
+
+pub returns-in-10 : goal.returns-in-10
+unfolding item_of
+returns-in-10 c = rw (item c B.hash c.in-10.is) (c.nil_item.ensures _ _ _ ((c.requires.ready.0)))
+
+pub returns-in-11 : goal.returns-in-11
+unfolding item_of
+returns-in-11 c = rw (item c B.ampersand c.in-11.is) (c.cons_item.ensures _ _ ((c.requires.ready.0)))
+
+pub returns-in-12 : goal.returns-in-12
+unfolding item_of
+returns-in-12 c = rw (item c B.dollar c.in-12.is) (c.end_item.ensures _ _ _ _)
+
+pub returns-in-13 : goal.returns-in-13
+unfolding item_of
+returns-in-13 c = rw (item c B.greater c.in-13.is) (c.store_item.ensures _ ((c.requires.ready.0)))
+
+pub returns-in-15 : goal.returns-in-15
+unfolding item_of
+returns-in-15 c = rw (item c B.register c.in-15.is) (c.push_item.ensures _ _ _ ((c.requires.ready.0)))
+
+pub returns-in-1 : goal.returns-in-1
+returns-in-1 c = rw (integer-lex _ _ ((search)) ((c.requires.ready.1)) c.in_default-1.rest c.in-1.if-k-lt3-own.true _) (c.integer_item.ensures _ _ ((c.requires.ready.0)))
+
+pub returns-in_default : goal.returns-in_default
+unfolding item_of
+returns-in_default c = rw (item c B.comma (only_comma (class_of _) _ ((c.requires.ready.1)) c.in_default-1.rest c.in_default.if-k-lt3-own.false)) (stray _ _ _)

@@ -1,0 +1,50 @@
+-- `text::walk::put_first` meets its contract.
+use mathlib.Core.Path.{sym, ◌∙◌}
+use native.Mathlib.Omega.{arith}
+use borrow.Author.Tests.{not-true, not-false}
+use Rattle.table.specs.Words.{last_first}
+use Rattle.text.proofs.Frames.{above-room}
+use Rattle.text.proofs.Entering.{starts, frame-fits, begin_fits, first-earlier, first-room, entered, leaf-fits, leaf-stored}
+use Rattle.text.proofs.walk.put_first.Goals as goal
+
+pub read_row-words-requires : goal.read_row-words-requires
+read_row-words-requires c = above-room c.args.message.now _ _ c.requires.room.fits _ (last_first c.args.stack.now c.args.depth) c.requires.above
+
+pub loop-n-init : goal.loop-n-init
+loop-n-init c = starts _ _ _ _ _ _ _ c.requires.above c.requires.room c.read_row-words.ensures
+
+pub overflow_add-above : goal.overflow_add-above
+overflow_add-above c = omega (arith, frame-fits _ _ _ _ _ _ _ _ _ _ _ _ _ c.loop-n.invariant)
+
+pub offset_bounds-stack-frames : goal.offset_bounds-stack-frames
+offset_bounds-stack-frames c = omega (arith, frame-fits _ _ _ _ _ _ _ _ _ _ _ _ _ c.loop-n.invariant)
+
+pub bounds-stack-frames : goal.bounds-stack-frames
+bounds-stack-frames c = frame-fits _ _ _ _ _ _ _ _ _ _ _ _ _ c.loop-n.invariant
+
+pub begin-begun-requires : goal.begin-begun-requires
+begin-begun-requires c = begin_fits _ _ _ _ _ _ _ _ _ _ _ _ _ c.loop-n.invariant ((sym c.is_leaf.ensures ∙ not-true _ c.loop-n-test.true-raw))
+
+pub read_row-words-requires-in-loop-n : goal.read_row-words-requires-in-loop-n
+read_row-words-requires-in-loop-n c = omega (arith, c.begin-begun.ensures.at_value.1, first-room _ _ _ _ _ _ _ _ _ _ _ _ _ c.loop-n.invariant ((sym c.is_leaf.ensures ∙ not-true _ c.loop-n-test.true-raw)))
+
+pub loop-n-smaller : goal.loop-n-smaller
+loop-n-smaller c = omega (arith, c.begin-begun.ensures.at_value.1, first-earlier _ _ _ _ _ _ _ _ _ _ _ _ _ c.loop-n.invariant ((sym c.is_leaf.ensures ∙ not-true _ c.loop-n-test.true-raw)))
+
+pub loop-n-preserved : goal.loop-n-preserved
+loop-n-preserved c = entered _ _ _ _ _ _ _ _ _ _ _ _ _ c.loop-n.invariant ((sym c.is_leaf.ensures ∙ not-true _ c.loop-n-test.true-raw)) _ _ _ _ c.begin-begun.ensures.output_after c.begin-begun.ensures.at_value c.read_row-words-in-loop-n.ensures
+
+-- ASKED ['inside', 'words_in_bounds']
+pub put-requires : goal.put-requires
+put-requires c = leaf-fits _ _ _ _ _ _ _ _ _ _ _ _ _ c.loop-n.invariant ((sym c.is_leaf.ensures ∙ not-false _ c.loop-n-test.false-raw))
+
+pub shape_of-stack : goal.shape_of-stack
+shape_of-stack c = c.loop-n.invariant.same
+
+pub shape_of-output : goal.shape_of-output
+shape_of-output c = c.put.auto.1.0 ∙ c.loop-n.invariant.same-output
+
+-- ASKED ['falling', 'partly', 'at_lt_at']
+-- WARN put.ensures whole: ['output_after', 'value']
+pub returns : goal.returns
+returns c = leaf-stored _ _ _ _ _ _ _ _ _ _ _ _ _ c.loop-n.invariant ((sym c.is_leaf.ensures ∙ not-false _ c.loop-n-test.false-raw)) _ _ c.put.ensures

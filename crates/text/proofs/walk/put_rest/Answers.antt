@@ -1,0 +1,38 @@
+-- `text::walk::put_rest` meets its contract.
+use mathlib.Core.Path.{◌∙◌}
+use Rattle.text.proofs.Passes.{rises, turn-fits, turn-done, turn-into, none_left}
+use Rattle.text.proofs.walk.put_rest.Goals as goal
+
+pub loop-frames-init : goal.loop-frames-init
+loop-frames-init c =
+    let p = c.requires in
+    rises _ _ _ _ _ _ p.0 p.1
+
+-- ASKED ['top_in_bounds', 'falling', 'room']
+pub put_frame-after-requires : goal.put_frame-after-requires
+put_frame-after-requires c = turn-fits _ _ _ _ _ _ _ _ _ _ c.loop-frames.invariant c.loop-frames-test.true
+
+-- WARN put_frame-after.ensures whole: ['ready_after', 'partly']
+pub loop-frames-preserved : goal.loop-frames-preserved
+loop-frames-preserved c = turn-done _ _ _ _ _ _ _ _ _ _ c.loop-frames.invariant c.loop-frames-test.taken _ _ _ c.put_frame-after.kept.1.1.0 c.put_frame-after.kept.1.1.1.1.0 c.put_frame-after.ensures _ c.in-Done.is
+
+pub shape_of-stack-in-Into : goal.shape_of-stack-in-Into
+shape_of-stack-in-Into c = c.put_frame-after.kept.1.1.0 ∙ c.loop-frames.invariant.same
+
+pub shape_of-output-in-Into : goal.shape_of-output-in-Into
+shape_of-output-in-Into c = c.put_frame-after.kept.1.1.1.1.0 ∙ c.loop-frames.invariant.same-output
+
+-- ASKED ['ready_rest', 'partly']
+-- WARN put_frame-after.ensures whole: ['ready_after', 'partly']
+pub returns-in-Into : goal.returns-in-Into
+returns-in-Into c = turn-into _ _ _ _ _ _ _ _ _ _ c.loop-frames.invariant c.loop-frames-test.taken _ _ _ c.put_frame-after.kept.1.1.0 c.put_frame-after.kept.1.1.1.1.0 c.put_frame-after.ensures _ _ c.in-Into.is
+
+pub shape_of-stack : goal.shape_of-stack
+shape_of-stack c = c.loop-frames.invariant.same
+
+pub shape_of-output : goal.shape_of-output
+shape_of-output c = c.loop-frames.invariant.same-output
+
+-- ASKED ['ready_rest', 'partly']
+pub returns : goal.returns
+returns c = none_left _ _ _ _ _ _ _ _ _ _ c.loop-frames.invariant c.loop-frames-test.false

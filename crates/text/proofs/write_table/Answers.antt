@@ -1,0 +1,28 @@
+-- `text::write_table` meets its contract: 16 by the claims of the table, or what its rows give.
+use mathlib.Core.Path.{sym, ◌∙◌}
+use lib.Seq.{length-take-le}
+use borrow.Author.Tests.{not-true, not-false}
+use Rattle.format.specs.Sound.{count_fits, root_among}
+use Rattle.text.proofs.Answered.{claimed, count_fails, root_fails, by_rows}
+use Rattle.text.proofs.write_table.Goals as goal
+
+pub returns-then-not-count_fits : goal.returns-then-not-count_fits
+returns-then-not-count_fits c =
+    let p = c.requires in
+    count_fails _ _ _ _ _ _ p.0 p.1 (sym c.count_fits.ensures ∙ not-true _ c.if-not-count_fits.true-raw)
+
+pub returns-then-not-root_among : goal.returns-then-not-root_among
+returns-then-not-root_among c =
+    let p = c.requires in
+    root_fails _ _ _ _ _ _ p.0 p.1 ((sym c.count_fits.ensures ∙ not-false _ c.if-not-count_fits.false-raw)) (sym c.root_among.ensures ∙ not-true _ c.if-not-root_among.true-raw)
+
+pub slice_bounds-write_rows-end-2 : goal.slice_bounds-write_rows-end-2
+slice_bounds-write_rows-end-2 c = sym (length-take-le _ _ c.requires.1)
+
+pub write_rows-requires : goal.write_rows-requires
+write_rows-requires c = rw (length-take-le _ _ c.requires.1) (claimed ((sym c.count_fits.ensures ∙ not-false _ c.if-not-count_fits.false-raw)) ((sym c.root_among.ensures ∙ not-false _ c.if-not-root_among.false-raw)))
+
+pub returns : goal.returns
+returns c =
+    let p = c.requires in
+    by_rows _ _ _ _ _ _ p.0 p.1 ((sym c.count_fits.ensures ∙ not-false _ c.if-not-count_fits.false-raw)) ((sym c.root_among.ensures ∙ not-false _ c.if-not-root_among.false-raw)) _ _ (c.write_rows.ensures _)

@@ -1,0 +1,24 @@
+-- `words::word_named` meets its contract.
+use mathlib.Core.Path.{sym, ◌∙◌}
+use native.Mathlib.Omega.{arith}
+use Rattle.words.proofs.Answered.{refuses}
+use Rattle.words.proofs.Names.{known-size}
+use Rattle.words.proofs.Tags as laws
+use Rattle.words.proofs.word_named.Goals as goal
+
+pub find-found-requires : goal.find-found-requires
+find-found-requires c = c.requires.0
+
+-- ASKED ['result_value', 'fact']
+pub returns-in_default : goal.returns-in_default
+returns-in_default c = refuses 18 _ (omega arith) (laws.unknown _ _ _ (sym c.in_default.is ∙ c.find-found.ensures))
+
+pub word_in-requires : goal.word_in-requires
+word_in-requires c =
+    let wide = laws.known-width _ _ (sym c.in-Known.is ∙ c.find-found.ensures) (known-size _) in
+    (c.requires.1, wide.0, wide.1)
+
+-- ASKED ['result_value', 'fact']
+-- WARN word_in.ensures whole: ['result_value', 'fact']
+pub returns : goal.returns
+returns c = laws.known _ _ _ _ (sym c.in-Known.is ∙ c.find-found.ensures) _ c.word_in.ensures
