@@ -5,7 +5,7 @@ use Rattle.measure.proofs.Lengths as laws
 use Rattle.measure.proofs.judge.Given as goal
 
 abbrev pub invariant-loop-i : goal.invariant-loop-i
-invariant-loop-i l = laws.Measuring l.message l.rows (length l.initial.lengths) l.initial.lengths l.initial.i l.i
+invariant-loop-i l = laws.Measuring l.message l.rows (length l.initial.lengths) l.initial.lengths l.lengths l.i
 
 abbrev pub decreases-loop-i : goal.decreases-loop-i
 decreases-loop-i l = length l.initial.lengths - l.i

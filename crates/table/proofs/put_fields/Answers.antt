@@ -5,18 +5,28 @@ use mathlib.Core.Path.{◌≡◌, refl, sym, ◌∙◌}
 use mathlib.Core.List.{List}
 use native.Mathlib.Omega.{arith}
 use lib.ListN.{length}
+use Rattle.format.specs.Rows.{row_room}
 use Rattle.table.proofs.Tuple.{with_fields, field_more, field_none}
 use Rattle.table.proofs.put_fields.Goals as goal
 
-record Going (rows₀ stack : List ℕ) (low high₀ rest₀ : ℕ) (rows : List ℕ) (high rest : ℕ) : Type 0 where
-  above : low ≤ high
-  within : high ≤ high₀
-  count : rest + high ≡ rest₀ + high₀
-  same : length rows ≡ length rows₀
-  left : with_fields rows stack low high rest ≡ with_fields rows₀ stack low high₀ rest₀
-
 pub loop-high-init : goal.loop-high-init
 loop-high-init c = record { above = omega arith; within = omega arith; count = refl; same = refl; left = refl }
+
+pub overflow_add-n : goal.overflow_add-n
+unfolding row_room
+overflow_add-n c = omega arith
+
+pub overflow_cast-n : goal.overflow_cast-n
+unfolding row_room
+overflow_cast-n c = omega arith
+
+pub overflow_mul-n : goal.overflow_mul-n
+unfolding row_room
+overflow_mul-n c = omega arith
+
+pub put-requires : goal.put-requires
+unfolding row_room
+put-requires c = omega arith
 
 pub loop-high-preserved : goal.loop-high-preserved
 loop-high-preserved c =
@@ -25,7 +35,7 @@ loop-high-preserved c =
       above = omega arith;
       within = omega arith;
       count = omega arith;
-      same = c.put.auto.0 ∙ inv.same;
+      same = c.put.auto.rows ∙ inv.same;
       left = rw c.put.ensures (sym (field_more _ _ _ _ _ c.loop-high-test.true) ∙ inv.left);
     }
 

@@ -6,7 +6,7 @@ use Rattle.comparison.specs.Classes.{side, joint_term, class_list}
 use Rattle.comparison.proofs.classes.number_classes.Given as goal
 
 abbrev pub invariant-loop-n : goal.invariant-loop-n
-invariant-loop-n l = (l.n ≤ l.classes) × ((length l.initial.n ≡ length l.initial.classes) × (take l.n l.initial.n ≡ class_list (joint_term (side l.message_a l.rows_a l.used_a) (side l.message_b l.rows_b l.used_b)) l.n))
+invariant-loop-n l = (l.n ≤ l.end) × ((length l.classes ≡ length l.initial.classes) × (take l.n l.classes ≡ class_list (joint_term (side l.message_a l.rows_a l.used_a) (side l.message_b l.rows_b l.used_b)) l.n))
 
 abbrev pub decreases-loop-n : goal.decreases-loop-n
-decreases-loop-n l = l.classes - l.n
+decreases-loop-n l = l.end - l.n

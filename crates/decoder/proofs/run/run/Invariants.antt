@@ -6,7 +6,7 @@ use Rattle.decoder.proofs.Loop.{Going}
 use Rattle.decoder.proofs.run.run.Given as goal
 
 abbrev pub invariant-loop-classes : goal.invariant-loop-classes
-invariant-loop-classes l = Going l.message (tables l.initial.rows l.rows l.initial.stack l.stack) (tables l.initial.registers l.registers l.classes l.initial.s) l.s
+invariant-loop-classes l = Going l.message (tables l.initial.rows l.initial.stack l.initial.marks l.initial.registers) (tables l.rows l.stack l.marks l.registers) l.s
 
 abbrev pub decreases-loop-classes : goal.decreases-loop-classes
 decreases-loop-classes l = length l.message - l.s.at.0

@@ -8,7 +8,7 @@ use Rattle.format.specs.Text.{natural_on}
 use Rattle.leaves.proofs.decimal.digit_count.Given as goal
 
 abbrev pub invariant-loop-rest : goal.invariant-loop-rest
-invariant-loop-rest l = (l.count + length (natural_on l.initial.count []) ≡ length (natural_on l.n []) + 1) × (length (natural_on l.n []) ≤ 20)
+invariant-loop-rest l = (l.count + length (natural_on l.rest []) ≡ length (natural_on l.n []) + 1) × (length (natural_on l.n []) ≤ 20)
 
 abbrev pub decreases-loop-rest : goal.decreases-loop-rest
-decreases-loop-rest l = l.initial.count
+decreases-loop-rest l = l.rest

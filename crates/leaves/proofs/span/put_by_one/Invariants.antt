@@ -6,7 +6,7 @@ use Rattle.leaves.proofs.Spans as laws
 use Rattle.leaves.proofs.span.put_by_one.Given as goal
 
 abbrev pub invariant-loop-i : goal.invariant-loop-i
-invariant-loop-i l = laws.Copying (span_of l.message l.from l.n) l.output l.initial.output l.initial.i l.i
+invariant-loop-i l = laws.Copying (span_of l.message l.from l.n) l.at l.initial.output l.output l.i
 
 abbrev pub decreases-loop-i : goal.decreases-loop-i
 decreases-loop-i l = l.n - l.i

@@ -5,7 +5,7 @@ use Rattle.leaves.proofs.Spans as laws
 use Rattle.leaves.proofs.span.store_block.Given as goal
 
 abbrev pub invariant-loop-i : goal.invariant-loop-i
-invariant-loop-i l = laws.Copying l.at l.output l.initial.output l.initial.i l.i
+invariant-loop-i l = laws.Copying l.block l.at l.initial.output l.output l.i
 
 abbrev pub decreases-loop-i : goal.decreases-loop-i
 decreases-loop-i l = 8 - l.i

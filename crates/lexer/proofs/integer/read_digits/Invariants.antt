@@ -6,7 +6,7 @@ use Rattle.lexer.proofs.Runs as laws
 use Rattle.lexer.proofs.integer.read_digits.Given as goal
 
 abbrev pub invariant-loop-i : goal.invariant-loop-i
-invariant-loop-i l = laws.Reading l.message l.initial.i l.v l.initial.value l.value
+invariant-loop-i l = laws.Reading l.message l.initial.i l.v l.i l.value
 
 abbrev pub decreases-loop-i : goal.decreases-loop-i
-decreases-loop-i l = length l.message - l.initial.value
+decreases-loop-i l = length l.message - l.i

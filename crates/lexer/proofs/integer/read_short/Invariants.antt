@@ -9,7 +9,7 @@ use Rattle.lexer.specs.Digits.{small}
 use Rattle.lexer.proofs.integer.read_short.Given as goal
 
 abbrev pub invariant-loop-i : goal.invariant-loop-i
-invariant-loop-i l = (l.value ≤ small) × (integer_from (Begun.Digits false l.value) l.initial.value (drop l.initial.value l.message) ≡ integer_from (Begun.Digits false l.v) l.initial.i (drop l.initial.i l.message))
+invariant-loop-i l = (l.value ≤ small) × (integer_from (Begun.Digits false l.value) l.i (drop l.i l.message) ≡ integer_from (Begun.Digits false l.v) l.initial.i (drop l.initial.i l.message))
 
 abbrev pub decreases-loop-i : goal.decreases-loop-i
-decreases-loop-i l = length l.message - l.initial.value
+decreases-loop-i l = length l.message - l.i

@@ -5,7 +5,7 @@ use Rattle.lexer.proofs.Scans as laws
 use Rattle.lexer.proofs.quoted.read_quoted.Given as goal
 
 abbrev pub invariant-loop-i : goal.invariant-loop-i
-invariant-loop-i l = laws.Looking l.quote l.start l.message l.escaped l.initial.open l.open
+invariant-loop-i l = laws.Looking l.quote l.start l.message l.escaped l.i l.open
 
 abbrev pub decreases-loop-i : goal.decreases-loop-i
-decreases-loop-i l = length l.message - l.initial.open
+decreases-loop-i l = length l.message - l.i

@@ -5,7 +5,7 @@ use Rattle.text.proofs.Counts.{work, to_count, Counting}
 use Rattle.text.proofs.count.fits.Given as goal
 
 abbrev pub invariant-loop-depth : goal.invariant-loop-depth
-invariant-loop-depth l = Counting l.message l.rows (length l.initial.stack) (to_count l.message l.rows (length l.initial.stack) l.initial.stack l.room) l.initial.depth l.depth l.initial.left l.left
+invariant-loop-depth l = Counting l.message l.rows (length l.initial.stack) (to_count l.message l.rows (length l.initial.stack) l.initial.stack l.initial.depth) l.initial.left l.stack l.depth l.left
 
 abbrev pub decreases-loop-depth : goal.decreases-loop-depth
-decreases-loop-depth l = work (last_first l.depth l.initial.left)
+decreases-loop-depth l = work (last_first l.stack l.depth)

@@ -3,7 +3,7 @@ use Rattle.text.proofs.Passes.{Rising}
 use Rattle.text.proofs.walk.put_rest.Given as goal
 
 abbrev pub invariant-loop-frames : goal.invariant-loop-frames
-invariant-loop-frames l = Rising l.message l.rows l.initial.stack l.depth l.output l.at l.initial.frames l.frames l.initial.end l.end
+invariant-loop-frames l = Rising l.message l.rows l.initial.stack l.initial.output l.initial.frames l.initial.end l.stack l.output l.frames l.end
 
 abbrev pub decreases-loop-frames : goal.decreases-loop-frames
-decreases-loop-frames l = l.initial.end
+decreases-loop-frames l = l.frames
