@@ -15,9 +15,8 @@ shape_of-marks-in-Refused c = c.decode-a.auto.1.1.1.0
 pub shape_of-registers-in-Refused : goal.shape_of-registers-in-Refused
 shape_of-registers-in-Refused c = c.decode-a.auto.1.1.1.1.0
 
--- ASKED ['value', 'scratch_after']
 pub returns-in-Refused : goal.returns-in-Refused
-returns-in-Refused c = first-refused _ _ _ _ _ _ _ c.decode-a.ensures _ _ c.in-Refused.is
+returns-in-Refused c = let all = first-refused _ _ _ _ _ _ _ c.decode-a.ensures _ _ c.in-Refused.is in record { value = all.0; scratch_after = all.1 }
 
 pub shape_of-rows_a-in-Refused-b : goal.shape_of-rows_a-in-Refused-b
 shape_of-rows_a-in-Refused-b c = c.decode-a.auto.1.0
@@ -34,9 +33,8 @@ shape_of-marks-in-Refused-b c = c.decode-b.kept.1.1.1.0 ∙ c.decode-a.auto.1.1.
 pub shape_of-registers-in-Refused-b : goal.shape_of-registers-in-Refused-b
 shape_of-registers-in-Refused-b c = c.decode-b.kept.1.1.1.1.0 ∙ c.decode-a.auto.1.1.1.1.0
 
--- ASKED ['value', 'scratch_after']
 pub returns-in-Refused-b : goal.returns-in-Refused-b
-returns-in-Refused-b c = second-refused _ _ _ _ _ _ _ c.decode-a.ensures _ _ _ c.in-Accepted.is _ _ c.decode-b.ensures _ _ c.in-Refused-b.is
+returns-in-Refused-b c = let all = second-refused _ _ _ _ _ _ _ c.decode-a.ensures _ _ _ c.in-Accepted.is _ _ c.decode-b.ensures _ _ c.in-Refused-b.is in record { value = all.0; scratch_after = all.1 }
 
 pub shape_of-rows_a-in-Accepted-b : goal.shape_of-rows_a-in-Accepted-b
 shape_of-rows_a-in-Accepted-b c = c.decode-a.auto.1.0
@@ -53,10 +51,5 @@ shape_of-marks-in-Accepted-b c = c.decode-b.kept.1.1.1.0 ∙ c.decode-a.auto.1.1
 pub shape_of-registers-in-Accepted-b : goal.shape_of-registers-in-Accepted-b
 shape_of-registers-in-Accepted-b c = c.decode-b.kept.1.1.1.1.0 ∙ c.decode-a.auto.1.1.1.1.0
 
--- ASKED ['value', 'scratch_after']
--- WARN compare.ensures whole: ['scratch_after', 'fact']
--- WARN compare.ensures whole: ['scratch_after', 'fact']
 pub returns-in-Accepted-b : goal.returns-in-Accepted-b
-returns-in-Accepted-b c =
-    let promise = c.compare.ensures in
-    both-accepted _ _ _ _ _ _ _ c.decode-a.ensures _ _ _ c.in-Accepted.is _ _ c.decode-b.ensures _ _ _ c.in-Accepted-b.is _ _ promise.0 promise.1 _ c.verdict_of.ensures
+returns-in-Accepted-b c = let promise = (c.compare.ensures.scratch_after, c.compare.ensures.fact) in let all = both-accepted _ _ _ _ _ _ _ c.decode-a.ensures _ _ _ c.in-Accepted.is _ _ c.decode-b.ensures _ _ _ c.in-Accepted-b.is _ _ promise.0 promise.1 _ c.verdict_of.ensures in record { value = all.0; scratch_after = all.1 }

@@ -2,10 +2,8 @@
 use Rattle.demands.proofs.SensorWords.{not-decoded, decoded}
 use Rattle.claims.proofs.message_word.Goals as goal
 
--- ASKED ['value', 'registers_after']
 pub returns-in-Refused : goal.returns-in-Refused
-returns-in-Refused c = not-decoded _ _ _ _ _ c.decode-d.ensures _ _ c.in-Refused.is
+returns-in-Refused c = let all = not-decoded _ _ _ _ _ c.decode-d.ensures _ _ c.in-Refused.is in record { value = all.0; registers_after = all.1 }
 
--- ASKED ['value', 'registers_after']
 pub returns-in-Accepted : goal.returns-in-Accepted
-returns-in-Accepted c = decoded _ _ _ _ _ c.decode-d.ensures _ _ _ c.in-Accepted.is _ c.read_word.ensures.result_value c.read_word.ensures.fact _ c.word_answer.ensures
+returns-in-Accepted c = let all = decoded _ _ _ _ _ c.decode-d.ensures _ _ _ c.in-Accepted.is _ c.read_word.ensures.result_value c.read_word.ensures.fact _ c.word_answer.ensures in record { value = all.0; registers_after = all.1 }

@@ -2,8 +2,5 @@
 use Rattle.demands.proofs.Demand1.{demand1_write}
 use Rattle.claims.proofs.write.Goals as goal
 
--- ASKED ['output_after', 'write_touches']
 pub returns : goal.returns
-returns c =
-    let promise = c.write.ensures in
-    (promise, demand1_write _ _ _ _ _ _ _ _ _ promise)
+returns c = let promise = c.write.ensures in record { output_after = promise; write_touches = demand1_write _ _ _ _ _ _ _ _ _ promise }

@@ -3,19 +3,14 @@ use native.Mathlib.Omega.{arith}
 use Rattle.comparison.proofs.Answered.{over_first, over-second, short-scratch, cleared}
 use Rattle.comparison.proofs.compare.Goals as goal
 
--- ASKED ['scratch_after', 'fact']
 pub returns-then-message_a-gt-MESSAGE_BYTES : goal.returns-then-message_a-gt-MESSAGE_BYTES
-returns-then-message_a-gt-MESSAGE_BYTES c = over_first _ _ _ _ _ _ _ _ _ c.if-message_a-gt-MESSAGE_BYTES.true
+returns-then-message_a-gt-MESSAGE_BYTES c = let all = over_first _ _ _ _ _ _ _ _ _ c.if-message_a-gt-MESSAGE_BYTES.true in record { scratch_after = all.0; fact = all.1 }
 
--- ASKED ['scratch_after', 'fact']
 pub returns-then-message_b-gt-MESSAGE_BYTES : goal.returns-then-message_b-gt-MESSAGE_BYTES
-returns-then-message_b-gt-MESSAGE_BYTES c = over-second _ _ _ _ _ _ _ _ _ c.if-message_a-gt-MESSAGE_BYTES.false c.if-message_b-gt-MESSAGE_BYTES.true
+returns-then-message_b-gt-MESSAGE_BYTES c = let all = over-second _ _ _ _ _ _ _ _ _ c.if-message_a-gt-MESSAGE_BYTES.false c.if-message_b-gt-MESSAGE_BYTES.true in record { scratch_after = all.0; fact = all.1 }
 
--- ASKED ['scratch_after', 'fact']
 pub returns-then-scratch-rows_of_both : goal.returns-then-scratch-rows_of_both
-returns-then-scratch-rows_of_both c = short-scratch _ _ _ _ _ _ _ _ _ c.if-message_a-gt-MESSAGE_BYTES.false c.if-message_b-gt-MESSAGE_BYTES.false (omega arith)
+returns-then-scratch-rows_of_both c = let all = short-scratch _ _ _ _ _ _ _ _ _ c.if-message_a-gt-MESSAGE_BYTES.false c.if-message_b-gt-MESSAGE_BYTES.false (omega arith) in record { scratch_after = all.0; fact = all.1 }
 
--- ASKED ['scratch_after', 'fact']
--- WARN compare_tables-answer.ensures whole: ['scratch_value', 'fact']
 pub returns : goal.returns
-returns c = cleared _ _ _ _ _ _ _ _ _ _ _ _ c.compare_tables-answer.auto.1.1.1.1.1.1.1.1.0 c.clear.ensures c.compare_tables-answer.ensures
+returns c = let all = cleared _ _ _ _ _ _ _ _ _ _ _ _ c.compare_tables-answer.auto.1.1.1.1.1.1.1.1.0 c.clear.ensures (c.compare_tables-answer.ensures.scratch_value, c.compare_tables-answer.ensures.fact) in record { scratch_after = all.0; fact = all.1 }

@@ -10,9 +10,8 @@ returns-then-message-gt-MESSAGE_BYTES c = over _ _ c.if-message-gt-MESSAGE_BYTES
 pub returns-then-registers-lt-REGISTER_WORDS : goal.returns-then-registers-lt-REGISTER_WORDS
 returns-then-registers-lt-REGISTER_WORDS c = short _ _ c.if-message-gt-MESSAGE_BYTES.false c.if-registers-lt-REGISTER_WORDS.true
 
--- ASKED ['message_len_bound', 'registers_value']
 pub run-answer-requires : goal.run-answer-requires
-run-answer-requires c = ((c.if-message-gt-MESSAGE_BYTES.left, omega arith), is-zeroed _ _ c.clear.ensures)
+run-answer-requires c = record { message_len_bound = (c.if-message-gt-MESSAGE_BYTES.left, omega arith); registers_value = is-zeroed _ _ c.clear.ensures }
 
 pub returns : goal.returns
 returns c = decoded _ _ _ _ _ _ c.clear.ensures c.if-message-gt-MESSAGE_BYTES.left c.if-registers-lt-REGISTER_WORDS.left _ _ (record { rows = sym c.run-answer.kept.1.0; stack = sym c.run-answer.kept.1.1.0; marks = sym c.run-answer.kept.1.1.1.0; registers = sym c.run-answer.kept.1.1.1.1.0 }) _ c.run-answer.ensures c.settle.ensures

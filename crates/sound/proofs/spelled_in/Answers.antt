@@ -5,9 +5,9 @@ use Rattle.format.specs.Sound.{in_slice, spelled_in}
 use Rattle.sound.proofs.Spelled.{by_end}
 use Rattle.sound.proofs.spelled_in.Goals as goal
 
-part-is-spelled-end : tie.Need-slice-bounds-is-spelled-end
+pub slice_bounds-is_spelled-end : goal.slice_bounds-is_spelled-end
 unfolding in_slice
-part-is-spelled-end c = leb-true _ _ (sym c.before.in-slice.ensures ∙ not-false _ c.if1.false)
+slice_bounds-is_spelled-end c = leb-true _ _ (sym c.in_slice.ensures ∙ not-false _ c.if-not-in_slice.false-raw)
 
 pub returns-then-not-in_slice : goal.returns-then-not-in_slice
 unfolding spelled_in

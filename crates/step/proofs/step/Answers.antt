@@ -17,22 +17,15 @@ item : (c : tie.After-k) (k : Class) → get_or (call c).args.classes.now (call 
     → lex (call c).args.b (drop ((call c).args.s.at.0 + 1) (call c).args.message.now) ≡ item_of k (call c).args.b (drop ((call c).args.s.at.0 + 1) (call c).args.message.now)
 item c k e = lex_of k _ _ (sym (rule c) ∙ e)
 
--- ASKED ['at_in_bounds', 'marks_in_bounds', 'depth_in_bounds', 'by_index']
 pub binary_item-requires : goal.binary_item-requires
-binary_item-requires c =
-    let held = (c.requires.ready.0) in
-    (omega arith, (omega arith, (omega arith, λ i l. omega (arith, held.values i l, held.used))))
+binary_item-requires c = let held = (c.requires.ready.0) in let all = (omega arith, (omega arith, (omega arith, λ i l. omega (arith, held.values i l, held.used)))) in record { at_in_bounds = all.0; marks_in_bounds = all.1; depth_in_bounds = all.2; by_index = all.3 }
 
--- ASKED ['at_in_bounds', 'marks_in_bounds', 'depth_in_bounds', 'register_words_in_bounds', 'depth_bound']
 pub store_item-requires : goal.store_item-requires
 unfolding row_room
-store_item-requires c =
-    let held = (c.requires.ready.0) in
-    (search, (omega arith, (omega arith, (omega arith, λ l. omega (arith, held.values (c.args.s.depth.0 - 1) (omega arith), held.used)))))
+store_item-requires c = let held = (c.requires.ready.0) in let all = (search, (omega arith, (omega arith, (omega arith, λ l. omega (arith, held.values (c.args.s.depth.0 - 1) (omega arith), held.used))))) in record { at_in_bounds = all.0; marks_in_bounds = all.1; depth_in_bounds = all.2; register_words_in_bounds = all.3; depth_bound = all.4 }
 
--- ASKED ['at_in_bounds', 'le_b']
 pub integer_item-requires : goal.integer_item-requires
-integer_item-requires c = (search, integer-first _ _ ((search)) ((c.requires.ready.1)) c.in_default-1.rest c.in-1.if-k-lt3-own.true)
+integer_item-requires c = record { at_in_bounds = search; le_b = integer-first _ _ ((search)) ((c.requires.ready.1)) c.in_default-1.rest c.in-1.if-k-lt3-own.true }
 
 pub returns-in-0 : goal.returns-in-0
 unfolding item_of

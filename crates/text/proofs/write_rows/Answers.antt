@@ -22,11 +22,8 @@ judge-requires c = count_room _ _ _ c.requires
 pub returns-then-not-judge : goal.returns-then-not-judge
 returns-then-not-judge c = λ scratch. rows_fail _ _ _ scratch _ (sym c.judge.ensures.value ∙ not-true _ c.if-not-judge.true-raw)
 
--- ASKED ['t', 'measured']
 pub fits-requires : goal.fits-requires
-fits-requires c =
-    let sound = (sym c.judge.ensures.value ∙ not-false _ c.if-not-judge.false-raw) in
-    rw c.judge.kept.1.1.0 (whole _ _ _ c.requires _ sound, c.judge.ensures.measured.0 (subst T (sym sound) tt))
+fits-requires c = let sound = (sym c.judge.ensures.value ∙ not-false _ c.if-not-judge.false-raw) in let all = rw c.judge.kept.1.1.0 (whole _ _ _ c.requires _ sound, c.judge.ensures.measured.0 (subst T (sym sound) tt)) in record { t = all.0; measured = all.1 }
 
 -- WARN no field fits2 at After-fits (own fits)
 pub returns-then-not-fits : goal.returns-then-not-fits
@@ -35,14 +32,12 @@ returns-then-not-fits c =
     let long = rw c.judge.auto.1.1.0 at (sym c.<<After-fits>>.fits2.ensures ∙ not-true _ c.if-not-fits.true-raw) in
     λ scratch. too_long _ _ _ sound scratch _ long
 
--- ASKED ['t', 'root_in_bounds']
 -- WARN no field fits2 at After-fits (own fits)
 -- WARN no field fits2 at After-fits (own fits)
 pub store_text-requires : goal.store_text-requires
-store_text-requires c = rw (c.<<After-fits>>.fits2.auto.1.1.1.0, c.judge.auto.1.1.0) (whole _ _ _ c.requires _ ((sym c.judge.ensures.value ∙ not-false _ c.if-not-judge.false-raw)), leb-true _ _ (room c))
+store_text-requires c = let all = rw (c.<<After-fits>>.fits2.auto.1.1.1.0, c.judge.auto.1.1.0) (whole _ _ _ c.requires _ ((sym c.judge.ensures.value ∙ not-false _ c.if-not-judge.false-raw)), leb-true _ _ (room c)) in record { t = all.0; root_in_bounds = all.1 }
 
 -- WARN no field fits2 at After-fits (own fits)
 -- WARN no field fits2 at After-fits (own fits)
--- WARN store_text.ensures whole: ['output_after', 'value']
 pub returns : goal.returns
-returns c = λ scratch. has_room _ _ _ ((sym c.judge.ensures.value ∙ not-false _ c.if-not-judge.false-raw)) scratch _ (room c) (rw (c.<<After-fits>>.fits2.auto.1.1.1.0, c.judge.auto.1.1.0) c c.store_text.ensures)
+returns c = λ scratch. has_room _ _ _ ((sym c.judge.ensures.value ∙ not-false _ c.if-not-judge.false-raw)) scratch _ (room c) (rw (c.<<After-fits>>.fits2.auto.1.1.1.0, c.judge.auto.1.1.0) c (c.store_text.ensures.output_after, c.store_text.ensures.value))

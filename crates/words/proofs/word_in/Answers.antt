@@ -5,13 +5,11 @@ use mir.ValLaws.{to_z-of_z}
 use Rattle.words.proofs.Blocks as laws
 use Rattle.words.proofs.word_in.Goals as goal
 
--- ASKED ['result_value', 'fact']
 pub returns-then-n-width-ne0 : goal.returns-then-n-width-ne0
-returns-then-n-width-ne0 c = laws.uneven _ _ _ c.requires.0 _ _ c.if-n-width-ne0.true
+returns-then-n-width-ne0 c = let all = laws.uneven _ _ _ c.requires.0 _ _ c.if-n-width-ne0.true in record { result_value = all.0; fact = all.1 }
 
--- ASKED ['result_value', 'fact']
 pub returns-then-n-width : goal.returns-then-n-width
-returns-then-n-width c = laws.no_word _ _ _ c.requires.0 _ _ c.if-n-width-ne0.false c.if-n-width.true
+returns-then-n-width c = let all = laws.no_word _ _ _ c.requires.0 _ _ c.if-n-width-ne0.false c.if-n-width.true in record { result_value = all.0; fact = all.1 }
 
 pub overflow_mul-at : goal.overflow_mul-at
 overflow_mul-at c = omega (arith, (laws.word_end c.args.message.now _ _ c.requires.0 c.args.layout _ c.if-n-width.false))
@@ -27,8 +25,5 @@ number-requires c =
     let p = c.requires in
     (p.1, p.2, laws.bits_below _ _ _ p.0 c.args.layout _ c.if-n-width.false (λ i. omega (arith, c.shared_slice_known-1.given i)) _ _ c.join-bits.ensures)
 
--- ASKED ['result_value', 'fact']
 pub returns : goal.returns
-returns c =
-    let told = laws.one_word _ _ _ c.requires.0 _ _ c.if-n-width.false c.if-n-width-ne0.false _ c.join-bits.ensures _ c.number.ensures in
-    rw (to_z-of_z w64 c.number.result (record { sfits = c.number.type-inv })) told
+returns c = let told = laws.one_word _ _ _ c.requires.0 _ _ c.if-n-width.false c.if-n-width-ne0.false _ c.join-bits.ensures _ c.number.ensures in let all = rw (to_z-of_z w64 c.number.result (record { sfits = c.number.type-inv })) told in record { result_value = all.0; fact = all.1 }

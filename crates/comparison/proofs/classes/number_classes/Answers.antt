@@ -14,9 +14,8 @@ pub loop-n-init : goal.loop-n-init
 unfolding class_list
 loop-n-init c = (omega arith, (refl, refl))
 
--- ASKED ['sound', 'used_b_value', 'classes_value']
 pub class_of-found-requires : goal.class_of-found-requires
-class_of-found-requires c = ((c.requires.0, c.requires.1), ((c.requires.2 ∙ sym c.loop-n.invariant.1.0, c.loop-n-test.true), c.loop-n.invariant.1.1))
+class_of-found-requires c = let all = ((c.requires.0, c.requires.1), ((c.requires.2 ∙ sym c.loop-n.invariant.1.0, c.loop-n-test.true), c.loop-n.invariant.1.1)) in record { sound = all.0; used_b_value = all.1; classes_value = all.2 }
 
 pub overflow_add-n : goal.overflow_add-n
 overflow_add-n c = omega (arith, (let a = c.args in (few (side a.message-a.now a.rows-a.now a.used-a) c.requires.0, few (side a.message-b.now a.rows-b.now a.used-b) c.requires.1)))

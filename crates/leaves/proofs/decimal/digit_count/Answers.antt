@@ -11,10 +11,8 @@ loop-rest-init c = omega (arith, natural-bound c.args.n 19 (omega arith))
 pub loop-rest-preserved : goal.loop-rest-preserved
 loop-rest-preserved c = omega (arith, length-more_two _ c.loop-rest-test.true)
 
--- ASKED ['value', 'upper_bound']
 pub returns-then-rest-lt10 : goal.returns-then-rest-lt10
-returns-then-rest-lt10 c = omega (arith, length_one _ c.if-rest-lt10.true)
+returns-then-rest-lt10 c = record { value = omega (arith, length_one _ c.if-rest-lt10.true); upper_bound = omega (arith, length_one _ c.if-rest-lt10.true) }
 
--- ASKED ['value', 'upper_bound']
 pub returns : goal.returns
-returns c = omega (arith, length_two _ c.if-rest-lt10.false c.loop-rest-test.false)
+returns c = record { value = omega (arith, length_two _ c.if-rest-lt10.false c.loop-rest-test.false); upper_bound = omega (arith, length_two _ c.if-rest-lt10.false c.loop-rest-test.false) }

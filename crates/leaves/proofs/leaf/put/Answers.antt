@@ -12,30 +12,21 @@ put_halves-requires c = room_as (integer-leaf _ _ c.in-1.is) _ c.requires.words_
 pub put_byte-requires : goal.put_byte-requires
 put_byte-requires c = omega (arith, room_as (nil-leaf _ _ c.in-5.is) _ c.requires.words_in_bounds)
 
--- ASKED ['n_in_bounds', 'n_in_bounds_2']
 pub put_bytes-requires : goal.put_bytes-requires
-put_bytes-requires c = (span-inside _ _ ((span-kind _ (omega (arith, c.in_default-1.rest.0.1)) (omega arith))) c.requires.inside, room_as (span-leaf _ _ ((span-kind _ (omega (arith, c.in_default-1.rest.0.1)) (omega arith)))) _ c.requires.words_in_bounds)
+put_bytes-requires c = record { n_in_bounds = span-inside _ _ ((span-kind _ (omega (arith, c.in_default-1.rest.0.1)) (omega arith))) c.requires.inside; n_in_bounds_2 = room_as (span-leaf _ _ ((span-kind _ (omega (arith, c.in_default-1.rest.0.1)) (omega arith)))) _ c.requires.words_in_bounds }
 
 pub put_braces-requires : goal.put_braces-requires
 put_braces-requires c = room_as (end-leaf _ _ ((⊎_elim (λ low. inl low.taken) (λ high. inr (omega (arith, high.1.left, c.in_default-1.rest.1))) c.in_default.branch))) _ c.requires.words_in_bounds
 
--- ASKED ['output_after', 'value']
--- WARN put_halves.ensures whole: ['output_after', 'value']
 pub returns-in-1 : goal.returns-in-1
 unfolding integer_of_row
-returns-in-1 c = stored_as (integer-leaf _ _ c.in-1.is) _ _ c.put_halves.ensures
+returns-in-1 c = let all = stored_as (integer-leaf _ _ c.in-1.is) _ _ (c.put_halves.ensures.output_after, c.put_halves.ensures.value) in record { output_after = all.0; value = all.1 }
 
--- ASKED ['output_after', 'value']
--- WARN put_byte.ensures whole: ['output_after', 'value']
 pub returns-in-5 : goal.returns-in-5
-returns-in-5 c = stored_as (nil-leaf _ _ c.in-5.is) _ _ c.put_byte.ensures
+returns-in-5 c = let all = stored_as (nil-leaf _ _ c.in-5.is) _ _ (c.put_byte.ensures.output_after, c.put_byte.ensures.value) in record { output_after = all.0; value = all.1 }
 
--- ASKED ['output_after', 'value']
--- WARN put_bytes.ensures whole: ['output_after', 'value']
 pub returns-in-2 : goal.returns-in-2
-returns-in-2 c = stored_as (span-leaf _ _ ((span-kind _ (omega (arith, c.in_default-1.rest.0.1)) (omega arith)))) _ _ c.put_bytes.ensures
+returns-in-2 c = let all = stored_as (span-leaf _ _ ((span-kind _ (omega (arith, c.in_default-1.rest.0.1)) (omega arith)))) _ _ (c.put_bytes.ensures.output_after, c.put_bytes.ensures.value) in record { output_after = all.0; value = all.1 }
 
--- ASKED ['output_after', 'value']
--- WARN put_braces.ensures whole: ['output_after', 'value']
 pub returns-in_default : goal.returns-in_default
-returns-in_default c = stored_as (end-leaf _ _ ((⊎_elim (λ low. inl low.taken) (λ high. inr (omega (arith, high.1.left, c.in_default-1.rest.1))) c.in_default.branch))) _ _ c.put_braces.ensures
+returns-in_default c = let all = stored_as (end-leaf _ _ ((⊎_elim (λ low. inl low.taken) (λ high. inr (omega (arith, high.1.left, c.in_default-1.rest.1))) c.in_default.branch))) _ _ (c.put_braces.ensures.output_after, c.put_braces.ensures.value) in record { output_after = all.0; value = all.1 }

@@ -4,8 +4,5 @@ use mathlib.Core.List.{[], ◌∷◌}
 use Rattle.leaves.proofs.Stores.{stored-both}
 use Rattle.leaves.proofs.leaf.put_braces.Goals as goal
 
--- ASKED ['output_after', 'value']
--- WARN put_byte-close.ensures whole: ['output_after', 'value']
--- WARN put_byte.ensures whole: ['output_after', 'value']
 pub returns : goal.returns
-returns c = stored-both c.args.output.now _ (code "{" ∷ []) (code "}" ∷ []) c.put_byte-close.ensures c.put_byte.ensures
+returns c = let all = stored-both c.args.output.now _ (code "{" ∷ []) (code "}" ∷ []) (c.put_byte-close.ensures.output_after, c.put_byte-close.ensures.value) (c.put_byte.ensures.output_after, c.put_byte.ensures.value) in record { output_after = all.0; value = all.1 }

@@ -9,14 +9,8 @@ put_count-quote-requires c =
     let given = c.args in
     omega (arith, length-bytes given.message.now given.k given.start.0 given.n refl)
 
--- ASKED ['n_in_bounds', 'n_in_bounds_2']
 pub put_quoted-requires : goal.put_quoted-requires
-put_quoted-requires c =
-    let given = c.args in
-    (c.requires.n_in_bounds, omega (arith, length-bytes given.message.now given.k given.start.0 given.n c.quote_of.ensures))
+put_quoted-requires c = let given = c.args in record { n_in_bounds = c.requires.n_in_bounds; n_in_bounds_2 = omega (arith, length-bytes given.message.now given.k given.start.0 given.n c.quote_of.ensures) }
 
--- ASKED ['output_after', 'value']
--- WARN put_count-quote.ensures whole: ['output_after', 'value']
--- WARN put_quoted.ensures whole: ['output_after', 'value']
 pub returns : goal.returns
-returns c = stored_bytes _ _ _ _ c.quote_of.ensures _ _ c.put_count-quote.ensures c.put_quoted.ensures
+returns c = let all = stored_bytes _ _ _ _ c.quote_of.ensures _ _ (c.put_count-quote.ensures.output_after, c.put_count-quote.ensures.value) (c.put_quoted.ensures.output_after, c.put_quoted.ensures.value) in record { output_after = all.0; value = all.1 }

@@ -7,11 +7,8 @@ use Rattle.leaves.proofs.leaf.put_count.Goals as goal
 pub put_natural-requires : goal.put_natural-requires
 put_natural-requires c = room_as (counted _ c.if-k-eq-BINARY.true) _ c.requires
 
--- ASKED ['output_after', 'value']
--- WARN put_natural.ensures whole: ['output_after', 'value']
 pub returns-then-k-eq-BINARY : goal.returns-then-k-eq-BINARY
-returns-then-k-eq-BINARY c = stored_as (counted _ c.if-k-eq-BINARY.true) _ _ c.put_natural.ensures
+returns-then-k-eq-BINARY c = let all = stored_as (counted _ c.if-k-eq-BINARY.true) _ _ (c.put_natural.ensures.output_after, c.put_natural.ensures.value) in record { output_after = all.0; value = all.1 }
 
--- ASKED ['output_after', 'value']
 pub returns : goal.returns
-returns c = stored_as (not-counted _ c.if-k-eq-BINARY.false) _ _ (refl, omega arith)
+returns c = let all = stored_as (not-counted _ c.if-k-eq-BINARY.false) _ _ (refl, omega arith) in record { output_after = all.0; value = all.1 }

@@ -7,7 +7,5 @@ use Rattle.leaves.proofs.leaf.put_halves.Goals as goal
 pub put_integer-requires : goal.put_integer-requires
 put_integer-requires c = omega (arith, ap length c.from_halves-z.ensures)
 
--- ASKED ['output_after', 'value']
--- WARN put_integer.ensures whole: ['output_after', 'value']
 pub returns : goal.returns
-returns c = rw c.from_halves-z.ensures at c.put_integer.ensures
+returns c = let all = rw c.from_halves-z.ensures at (c.put_integer.ensures.output_after, c.put_integer.ensures.value) in record { output_after = all.0; value = all.1 }

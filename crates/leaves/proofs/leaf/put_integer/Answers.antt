@@ -9,16 +9,11 @@ put_byte-digits-requires c = omega (arith, length-negative c.args.n c.if-negativ
 pub put_magnitude-requires : goal.put_magnitude-requires
 put_magnitude-requires c = omega (arith, length-negative c.args.n c.if-negative.true)
 
--- ASKED ['output_after', 'value']
--- WARN put_byte-digits.ensures whole: ['output_after', 'value']
--- WARN put_magnitude.ensures whole: ['output_after', 'value']
 pub returns-then-negative : goal.returns-then-negative
-returns-then-negative c = stored-negative _ _ _ c.if-negative.true c.put_byte-digits.ensures c.put_magnitude.ensures
+returns-then-negative c = let all = stored-negative _ _ _ c.if-negative.true (c.put_byte-digits.ensures.output_after, c.put_byte-digits.ensures.value) (c.put_magnitude.ensures.output_after, c.put_magnitude.ensures.value) in record { output_after = all.0; value = all.1 }
 
 pub put_magnitude-requires-2 : goal.put_magnitude-requires-2
 put_magnitude-requires-2 c = rw c.if-negative.false at c.requires
 
--- ASKED ['output_after', 'value']
--- WARN put_magnitude-2.ensures whole: ['output_after', 'value']
 pub returns : goal.returns
-returns c = rw c.if-negative.false c.put_magnitude-2.ensures
+returns c = let all = rw c.if-negative.false (c.put_magnitude-2.ensures.output_after, c.put_magnitude-2.ensures.value) in record { output_after = all.0; value = all.1 }

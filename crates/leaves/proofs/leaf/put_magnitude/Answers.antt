@@ -9,8 +9,5 @@ put_natural-end-requires c = omega (arith, length_magnitude c.args.n)
 pub put_byte-requires : goal.put_byte-requires
 put_byte-requires c = omega (arith, length_magnitude c.args.n)
 
--- ASKED ['output_after', 'value']
--- WARN put_natural-end.ensures whole: ['output_after', 'value']
--- WARN put_byte.ensures whole: ['output_after', 'value']
 pub returns : goal.returns
-returns c = stored_magnitude _ _ _ c.put_natural-end.ensures c.put_byte.ensures
+returns c = let all = stored_magnitude _ _ _ (c.put_natural-end.ensures.output_after, c.put_natural-end.ensures.value) (c.put_byte.ensures.output_after, c.put_byte.ensures.value) in record { output_after = all.0; value = all.1 }

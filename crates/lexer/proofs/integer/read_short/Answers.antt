@@ -11,12 +11,6 @@ use Rattle.lexer.proofs.Bytes.{digit_range}
 use Rattle.lexer.proofs.Integers as laws
 use Rattle.lexer.proofs.integer.read_short.Goals as goal
 
-passed : (c : tie.Else1 invariant-loop decreases-loop)
-    → (let message = (head c).before.before.args.message.now in let i = (head c).loop.i in let value = (head c).loop.value in
-    integer_from (Begun.Digits false (value * 10 + (get_or message i 0 - 48))) (i + 1) (drop (i + 1) message)
-    ≡ integer_from (Begun.Digits false (head c).before.before.args.v) (head c).before.before.args.from.0 (drop (head c).before.before.args.from.0 message))
-passed c = laws.short-passes _ _ _ c.before.before.before.loop-test.true (digit c) ∙ (head c).loop.invariant.1
-
 pub loop-i-init : goal.loop-i-init
 loop-i-init c = (c.requires, refl)
 
@@ -36,10 +30,10 @@ pub overflow_add-value : goal.overflow_add-value
 overflow_add-value c = omega (arith, c.loop-i.invariant.0, digit_range _ ((sym c.is_digit.ensures ∙ not-false _ c.if-not-is_digit.false-raw)))
 
 pub returns-then-value-gt-SMALL : goal.returns-then-value-gt-SMALL
-returns-then-value-gt-SMALL c = c.read_long.ensures ∙ passed c
+returns-then-value-gt-SMALL c = c.read_long.ensures ∙ laws.short-passes _ _ _ c.loop-i-test.true (sym c.is_digit.ensures ∙ not-false _ c.if-not-is_digit.false-raw) ∙ c.loop-i.invariant.1
 
 pub loop-i-preserved : goal.loop-i-preserved
-loop-i-preserved c = (c.if-value-gt-SMALL.false, passed c)
+loop-i-preserved c = (c.if-value-gt-SMALL.false, laws.short-passes _ _ _ c.loop-i-test.true (sym c.is_digit.ensures ∙ not-false _ c.if-not-is_digit.false-raw) ∙ c.loop-i.invariant.1)
 
 pub returns : goal.returns
 returns c = laws.short-ends _ _ _ c.loop-i-test.false c.loop-i.invariant.0 ∙ c.loop-i.invariant.1

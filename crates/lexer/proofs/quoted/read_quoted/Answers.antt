@@ -1,9 +1,9 @@
 -- `lexer::quoted::read_quoted` meets its contract: what is found from a place on is what is found from the first place on.
-use mathlib.Core.Logic.{⊎_elim}
 use native.Mathlib.Omega.{arith}
 use Rattle.scan.proofs.Runs.{not-before}
 use Rattle.lexer.proofs.Scans as laws
 use Rattle.lexer.proofs.quoted.read_quoted.Goals as goal
+use Rattle.lexer.proofs.quoted.read_quoted.Goals.{then-b-ne-BACKSLASH+else-b-quote, else-b-ne-BACKSLASH}
 
 pub loop-i-init : goal.loop-i-init
 loop-i-init c = laws.begins _ _ _ _
@@ -13,10 +13,10 @@ returns-then-b-quote c = laws.strays _ _ _ c.loop-i.invariant c.loop-i-test.true
 
 pub loop-i-preserved-then-open : goal.loop-i-preserved-then-open
 loop-i-preserved-then-open c =
-    ⊎_elim
-    (λ w. laws.escaped_quote _ _ _ c.loop-i.invariant c.loop-i-test.true c.if-open.true w.1.left)
-    (λ w. laws.backslash _ _ _ c.loop-i.invariant c.loop-i-test.true c.if-open.true w.left)
-    c.if-b-ne-BACKSLASH.branch
+    elim c.if-b-ne-BACKSLASH.branch [
+      | then-b-ne-BACKSLASH+else-b-quote w ↦ laws.escaped_quote _ _ _ c.loop-i.invariant c.loop-i-test.true c.if-open.true w.if-b-quote.false
+      | else-b-ne-BACKSLASH w ↦ laws.backslash _ _ _ c.loop-i.invariant c.loop-i-test.true c.if-open.true w.if-b-ne-BACKSLASH.false
+    ]
 
 pub returns-then-message-p : goal.returns-then-message-p
 returns-then-message-p c = laws.run_ends _ _ _ c.loop-i.invariant c.if-open.false (omega arith) (omega arith) c.plain_end-p.ensures c.if-message-p.true

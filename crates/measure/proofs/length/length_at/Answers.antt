@@ -6,6 +6,5 @@ use Rattle.measure.proofs.length.length_at.Goals as goal
 pub overflow_cast-result-2 : goal.overflow_cast-result-2
 overflow_cast-result-2 c = omega (arith, c.shared_slice_known-1.given c.args.row)
 
--- ASKED ['value', 'upper_bound']
 pub returns : goal.returns
-returns c = (refl, omega (arith, c.shared_slice_known-1.given c.args.row))
+returns c = record { value = refl; upper_bound = omega (arith, c.shared_slice_known-1.given c.args.row) }

@@ -10,43 +10,32 @@ loop-more-init c =
     let p = c.requires in
     begins _ _ _ _ _ p.0 p.1
 
--- ASKED ['above', 'room']
 pub put_first-first-requires : goal.put_first-first-requires
-put_first-first-requires c = first_fits _ _ _ _ _ _ _ _ _ _ (known _ _ _ _ _ _ _ _ _ _ c.loop-more-test.true c.loop-more.invariant)
+put_first-first-requires c = let all = first_fits _ _ _ _ _ _ _ _ _ _ (known _ _ _ _ _ _ _ _ _ _ c.loop-more-test.true c.loop-more.invariant) in record { above = all.0; room = all.1 }
 
--- ASKED ['falling', 'room']
--- WARN put_first-first.ensures whole: ['falling', 'partly', 'at_lt_at']
 pub put_rest-rest-requires : goal.put_rest-rest-requires
-put_rest-rest-requires c = rest-fits _ _ _ _ _ _ _ _ _ _ (known _ _ _ _ _ _ _ _ _ _ c.loop-more-test.taken c.loop-more.invariant) _ _ _ _ c.put_first-first.auto.1.1.0 c.put_first-first.auto.1.1.1.1.1.0 c.put_first-first.ensures
+put_rest-rest-requires c = let all = rest-fits _ _ _ _ _ _ _ _ _ _ (known _ _ _ _ _ _ _ _ _ _ c.loop-more-test.taken c.loop-more.invariant) _ _ _ _ c.put_first-first.auto.1.1.0 c.put_first-first.auto.1.1.1.1.1.0 (c.put_first-first.ensures.falling, c.put_first-first.ensures.partly, c.put_first-first.ensures.at_lt_at) in record { falling = all.0; room = all.1 }
 
--- WARN put_first-first.ensures whole: ['falling', 'partly', 'at_lt_at']
--- WARN put_rest-rest.ensures whole: ['ready_rest', 'partly']
 pub loop-more-smaller-in-Into : goal.loop-more-smaller-in-Into
 loop-more-smaller-in-Into c =
-    (goes_on _ _ _ _ _ _ _ _ _ _ (known _ _ _ _ _ _ _ _ _ _ c.loop-more-test.taken c.loop-more.invariant) _ _ _ _ c.put_first-first.kept.1.1.0 c.put_first-first.kept.1.1.1.1.1.0 c.put_first-first.ensures
-    _ _ _ c.put_rest-rest.kept.1.1.0 c.put_rest-rest.kept.1.1.1.1.0 c.put_rest-rest.ensures _ _ _ c.in-Into.is).1
+    (goes_on _ _ _ _ _ _ _ _ _ _ (known _ _ _ _ _ _ _ _ _ _ c.loop-more-test.taken c.loop-more.invariant) _ _ _ _ c.put_first-first.kept.1.1.0 c.put_first-first.kept.1.1.1.1.1.0 (c.put_first-first.ensures.falling, c.put_first-first.ensures.partly, c.put_first-first.ensures.at_lt_at)
+    _ _ _ c.put_rest-rest.kept.1.1.0 c.put_rest-rest.kept.1.1.1.1.0 (c.put_rest-rest.ensures.ready_rest, c.put_rest-rest.ensures.partly) _ _ _ c.in-Into.is).1
 
--- WARN put_first-first.ensures whole: ['falling', 'partly', 'at_lt_at']
--- WARN put_rest-rest.ensures whole: ['ready_rest', 'partly']
 pub loop-more-preserved-in-Into : goal.loop-more-preserved-in-Into
 loop-more-preserved-in-Into c =
     known _ _ _ _ _ _ _ _ _ _ (sym c.loop-more-test.taken)
-    (goes_on _ _ _ _ _ _ _ _ _ _ (known _ _ _ _ _ _ _ _ _ _ c.loop-more-test.taken c.loop-more.invariant) _ _ _ _ c.put_first-first.kept.1.1.0 c.put_first-first.kept.1.1.1.1.1.0 c.put_first-first.ensures
-    _ _ _ c.put_rest-rest.kept.1.1.0 c.put_rest-rest.kept.1.1.1.1.0 c.put_rest-rest.ensures _ _ _ c.in-Into.is).0
+    (goes_on _ _ _ _ _ _ _ _ _ _ (known _ _ _ _ _ _ _ _ _ _ c.loop-more-test.taken c.loop-more.invariant) _ _ _ _ c.put_first-first.kept.1.1.0 c.put_first-first.kept.1.1.1.1.1.0 (c.put_first-first.ensures.falling, c.put_first-first.ensures.partly, c.put_first-first.ensures.at_lt_at)
+    _ _ _ c.put_rest-rest.kept.1.1.0 c.put_rest-rest.kept.1.1.1.1.0 (c.put_rest-rest.ensures.ready_rest, c.put_rest-rest.ensures.partly) _ _ _ c.in-Into.is).0
 
--- WARN put_first-first.ensures whole: ['falling', 'partly', 'at_lt_at']
--- WARN put_rest-rest.ensures whole: ['ready_rest', 'partly']
 pub loop-more-smaller : goal.loop-more-smaller
 loop-more-smaller c =
-    (ends _ _ _ _ _ _ _ _ _ _ (known _ _ _ _ _ _ _ _ _ _ c.loop-more-test.taken c.loop-more.invariant) _ _ _ _ c.put_first-first.kept.1.1.0 c.put_first-first.kept.1.1.1.1.1.0 c.put_first-first.ensures
-    _ _ _ c.put_rest-rest.kept.1.1.0 c.put_rest-rest.kept.1.1.1.1.0 c.put_rest-rest.ensures _ c.in-Whole.is).1
+    (ends _ _ _ _ _ _ _ _ _ _ (known _ _ _ _ _ _ _ _ _ _ c.loop-more-test.taken c.loop-more.invariant) _ _ _ _ c.put_first-first.kept.1.1.0 c.put_first-first.kept.1.1.1.1.1.0 (c.put_first-first.ensures.falling, c.put_first-first.ensures.partly, c.put_first-first.ensures.at_lt_at)
+    _ _ _ c.put_rest-rest.kept.1.1.0 c.put_rest-rest.kept.1.1.1.1.0 (c.put_rest-rest.ensures.ready_rest, c.put_rest-rest.ensures.partly) _ c.in-Whole.is).1
 
--- WARN put_first-first.ensures whole: ['falling', 'partly', 'at_lt_at']
--- WARN put_rest-rest.ensures whole: ['ready_rest', 'partly']
 pub loop-more-preserved : goal.loop-more-preserved
 loop-more-preserved c =
-    (ends _ _ _ _ _ _ _ _ _ _ (known _ _ _ _ _ _ _ _ _ _ c.loop-more-test.taken c.loop-more.invariant) _ _ _ _ c.put_first-first.kept.1.1.0 c.put_first-first.kept.1.1.1.1.1.0 c.put_first-first.ensures
-    _ _ _ c.put_rest-rest.kept.1.1.0 c.put_rest-rest.kept.1.1.1.1.0 c.put_rest-rest.ensures _ c.in-Whole.is).0
+    (ends _ _ _ _ _ _ _ _ _ _ (known _ _ _ _ _ _ _ _ _ _ c.loop-more-test.taken c.loop-more.invariant) _ _ _ _ c.put_first-first.kept.1.1.0 c.put_first-first.kept.1.1.1.1.1.0 (c.put_first-first.ensures.falling, c.put_first-first.ensures.partly, c.put_first-first.ensures.at_lt_at)
+    _ _ _ c.put_rest-rest.kept.1.1.0 c.put_rest-rest.kept.1.1.1.1.0 (c.put_rest-rest.ensures.ready_rest, c.put_rest-rest.ensures.partly) _ c.in-Whole.is).0
 
 pub bounds-output-at : goal.bounds-output-at
 bounds-output-at c = last-place _ _ _ _ _ _ _ _ _ _ (known _ _ _ _ _ _ _ _ _ _ c.loop-more-test.false c.loop-more.invariant)
@@ -60,6 +49,5 @@ shape_of-stack c = c.loop-more.invariant.same
 pub shape_of-output : goal.shape_of-output
 shape_of-output c = length-set c.loop-more.output c.loop-more.at _ ∙ c.loop-more.invariant.same-output
 
--- ASKED ['output_after', 'value']
 pub returns : goal.returns
-returns c = all_stored _ _ _ _ _ _ _ _ _ _ (known _ _ _ _ _ _ _ _ _ _ c.loop-more-test.false c.loop-more.invariant)
+returns c = let all = all_stored _ _ _ _ _ _ _ _ _ _ (known _ _ _ _ _ _ _ _ _ _ c.loop-more-test.false c.loop-more.invariant) in record { output_after = all.0; value = all.1 }

@@ -34,9 +34,8 @@ loop-n-smaller c = omega (arith, c.begin-begun.ensures.at_value.1, first-earlier
 pub loop-n-preserved : goal.loop-n-preserved
 loop-n-preserved c = entered _ _ _ _ _ _ _ _ _ _ _ _ _ c.loop-n.invariant ((sym c.is_leaf.ensures ∙ not-true _ c.loop-n-test.true-raw)) _ _ _ _ c.begin-begun.ensures.output_after c.begin-begun.ensures.at_value c.read_row-words-in-loop-n.ensures
 
--- ASKED ['inside', 'words_in_bounds']
 pub put-requires : goal.put-requires
-put-requires c = leaf-fits _ _ _ _ _ _ _ _ _ _ _ _ _ c.loop-n.invariant ((sym c.is_leaf.ensures ∙ not-false _ c.loop-n-test.false-raw))
+put-requires c = let all = leaf-fits _ _ _ _ _ _ _ _ _ _ _ _ _ c.loop-n.invariant ((sym c.is_leaf.ensures ∙ not-false _ c.loop-n-test.false-raw)) in record { inside = all.0; words_in_bounds = all.1 }
 
 pub shape_of-stack : goal.shape_of-stack
 shape_of-stack c = c.loop-n.invariant.same
@@ -44,7 +43,5 @@ shape_of-stack c = c.loop-n.invariant.same
 pub shape_of-output : goal.shape_of-output
 shape_of-output c = c.put.auto.1.0 ∙ c.loop-n.invariant.same-output
 
--- ASKED ['falling', 'partly', 'at_lt_at']
--- WARN put.ensures whole: ['output_after', 'value']
 pub returns : goal.returns
-returns c = leaf-stored _ _ _ _ _ _ _ _ _ _ _ _ _ c.loop-n.invariant ((sym c.is_leaf.ensures ∙ not-false _ c.loop-n-test.false-raw)) _ _ c.put.ensures
+returns c = let all = leaf-stored _ _ _ _ _ _ _ _ _ _ _ _ _ c.loop-n.invariant ((sym c.is_leaf.ensures ∙ not-false _ c.loop-n-test.false-raw)) _ _ (c.put.ensures.output_after, c.put.ensures.value) in record { falling = all.0; partly = all.1; at_lt_at = all.2 }

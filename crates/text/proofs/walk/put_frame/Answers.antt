@@ -9,45 +9,27 @@ pub read_row-words-requires : goal.read_row-words-requires
 unfolding frame_row
 read_row-words-requires c = above-room c.args.message.now _ _ c.requires.falling.1.fits _ (last_first c.args.stack.now c.args.top) c.requires.falling.0.1
 
--- ASKED ['top_in_bounds', 'above', 'room']
 pub put_fields-requires : goal.put_fields-requires
 unfolding frame_row
 put_fields-requires c =
     let p = c.requires in
-    let k = c.in-8.is in
-    ((p.0, rest-tuple _ _ _ _ _ _ p.1.0 p.1.1 _ c.read_row-words.ensures k), (rest-above _ _ _ _ _ _ p.1.0 p.1.1 _ c.read_row-words.ensures k, rest-room _ _ _ _ _ _ p.1.0 p.1.1 _ c.read_row-words.ensures k))
+    let k = c.in-8.is in let all = ((p.0, rest-tuple _ _ _ _ _ _ p.1.0 p.1.1 _ c.read_row-words.ensures k), (rest-above _ _ _ _ _ _ p.1.0 p.1.1 _ c.read_row-words.ensures k, rest-room _ _ _ _ _ _ p.1.0 p.1.1 _ c.read_row-words.ensures k)) in record { top_in_bounds = all.0; above = all.1; room = all.2 }
 
--- ASKED ['n_in_bounds', 'n_in_bounds_2']
 pub put_quoted-requires : goal.put_quoted-requires
 unfolding frame_row
-put_quoted-requires c =
-    let p = c.requires in
-    tag_fits _ _ _ _ _ _ p.1.0 p.1.1 _ c.read_row-words.ensures c.in-9.is
+put_quoted-requires c = let p = c.requires in let all = tag_fits _ _ _ _ _ _ p.1.0 p.1.1 _ c.read_row-words.ensures c.in-9.is in record { n_in_bounds = all.0; n_in_bounds_2 = all.1 }
 
--- ASKED ['top_in_bounds', 'falling', 'room', 'top_value']
 pub put_item-requires : goal.put_item-requires
 unfolding frame_row
-put_item-requires c =
-    let p = c.requires in
-    (p.0, (p.1.0, (p.1.1, cell _ _ _ _ _ _ p.1.0 p.1.1 _ c.read_row-words.ensures c.in_default.in_default-own.rest.0.1 c.in_default.in_default-own.rest.1)))
+put_item-requires c = let p = c.requires in let all = (p.0, (p.1.0, (p.1.1, cell _ _ _ _ _ _ p.1.0 p.1.1 _ c.read_row-words.ensures c.in_default.in_default-own.rest.0.1 c.in_default.in_default-own.rest.1))) in record { top_in_bounds = all.0; falling = all.1; room = all.2; top_value = all.3 }
 
--- ASKED ['ready_after', 'partly']
--- WARN put_fields.ensures whole: ['ready_after', 'partly']
 pub returns-in-8 : goal.returns-in-8
 unfolding frame_row
-returns-in-8 c =
-    let p = c.requires in
-    fields_turned _ _ _ _ _ _ p.1.0 p.1.1 _ c.read_row-words.ensures c.in-8.is _ _ _ c.put_fields.ensures
+returns-in-8 c = let p = c.requires in let all = fields_turned _ _ _ _ _ _ p.1.0 p.1.1 _ c.read_row-words.ensures c.in-8.is _ _ _ (c.put_fields.ensures.ready_after, c.put_fields.ensures.partly) in record { ready_after = all.0; partly = all.1 }
 
--- ASKED ['ready_after', 'partly']
--- WARN put_quoted.ensures whole: ['output_after', 'value']
 pub returns-in-9 : goal.returns-in-9
 unfolding frame_row
-returns-in-9 c =
-    let p = c.requires in
-    tag-turned _ _ _ _ _ _ p.1.0 p.1.1 _ c.read_row-words.ensures c.in-9.is _ _ c.put_quoted.ensures
+returns-in-9 c = let p = c.requires in let all = tag-turned _ _ _ _ _ _ p.1.0 p.1.1 _ c.read_row-words.ensures c.in-9.is _ _ (c.put_quoted.ensures.output_after, c.put_quoted.ensures.value) in record { ready_after = all.0; partly = all.1 }
 
--- ASKED ['ready_after', 'partly']
--- WARN put_item.ensures whole: ['ready_after', 'partly']
 pub returns-in_default : goal.returns-in_default
-returns-in_default c = c.put_item.ensures
+returns-in_default c = record { ready_after = c.put_item.ensures.ready_after; partly = c.put_item.ensures.partly }

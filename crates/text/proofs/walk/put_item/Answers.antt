@@ -13,37 +13,24 @@ put_byte-requires c =
     let p = c.requires in
     begun-fits _ _ _ _ _ _ _ p.1.0 p.1.1.0 p.1.1.1 c.if-frame-ge-ITEM_BEGUN.true
 
--- ASKED ['ready_after', 'partly']
--- WARN put_byte.ensures whole: ['output_after', 'value']
 pub returns-then-frame-ge-ITEM_BEGUN : goal.returns-then-frame-ge-ITEM_BEGUN
-returns-then-frame-ge-ITEM_BEGUN c =
-    let p = c.requires in
-    begun-done _ _ _ _ _ _ _ p.1.0 p.1.1.0 p.1.1.1 c.if-frame-ge-ITEM_BEGUN.true _ _ c.put_byte.ensures
+returns-then-frame-ge-ITEM_BEGUN c = let p = c.requires in let all = begun-done _ _ _ _ _ _ _ p.1.0 p.1.1.0 p.1.1.1 c.if-frame-ge-ITEM_BEGUN.true _ _ (c.put_byte.ensures.output_after, c.put_byte.ensures.value) in record { ready_after = all.0; partly = all.1 }
 
 pub read_row-words-requires : goal.read_row-words-requires
 read_row-words-requires c =
     let p = c.requires in
     item_room _ _ _ _ _ _ _ p.1.0 p.1.1.0 p.1.1.1
 
--- ASKED ['inside', 'words_in_bounds']
 pub put-end-requires : goal.put-end-requires
-put-end-requires c =
-    let p = c.requires in
-    leaf-fits _ _ _ _ _ _ _ p.1.0 p.1.1.0 p.1.1.1 c.if-frame-ge-ITEM_BEGUN.false _ c.read_row-words.ensures ((sym c.is_leaf.ensures ∙ c.if-is_leaf.true))
+put-end-requires c = let p = c.requires in let all = leaf-fits _ _ _ _ _ _ _ p.1.0 p.1.1.0 p.1.1.1 c.if-frame-ge-ITEM_BEGUN.false _ c.read_row-words.ensures ((sym c.is_leaf.ensures ∙ c.if-is_leaf.true)) in record { inside = all.0; words_in_bounds = all.1 }
 
--- WARN put-end.ensures whole: ['output_after', 'value']
 pub put_byte-requires-then-is_leaf : goal.put_byte-requires-then-is_leaf
 put_byte-requires-then-is_leaf c =
     let p = c.requires in
-    and-fits _ _ _ _ _ _ _ p.1.0 p.1.1.0 p.1.1.1 c.if-frame-ge-ITEM_BEGUN.false _ c.read_row-words.ensures ((sym c.is_leaf.ensures ∙ c.if-is_leaf.true)) _ _ c.put-end.ensures
+    and-fits _ _ _ _ _ _ _ p.1.0 p.1.1.0 p.1.1.1 c.if-frame-ge-ITEM_BEGUN.false _ c.read_row-words.ensures ((sym c.is_leaf.ensures ∙ c.if-is_leaf.true)) _ _ (c.put-end.ensures.output_after, c.put-end.ensures.value)
 
--- ASKED ['ready_after', 'partly']
--- WARN put-end.ensures whole: ['output_after', 'value']
--- WARN put_byte-then-is_leaf.ensures whole: ['output_after', 'value']
 pub returns-then-is_leaf : goal.returns-then-is_leaf
-returns-then-is_leaf c =
-    let p = c.requires in
-    item-done _ _ _ _ _ _ _ p.1.0 p.1.1.0 p.1.1.1 c.if-frame-ge-ITEM_BEGUN.false _ c.read_row-words.ensures ((sym c.is_leaf.ensures ∙ c.if-is_leaf.true)) _ _ c.put-end.ensures _ _ c.put_byte-then-is_leaf.ensures
+returns-then-is_leaf c = let p = c.requires in let all = item-done _ _ _ _ _ _ _ p.1.0 p.1.1.0 p.1.1.1 c.if-frame-ge-ITEM_BEGUN.false _ c.read_row-words.ensures ((sym c.is_leaf.ensures ∙ c.if-is_leaf.true)) _ _ (c.put-end.ensures.output_after, c.put-end.ensures.value) _ _ (c.put_byte-then-is_leaf.ensures.output_after, c.put_byte-then-is_leaf.ensures.value) in record { ready_after = all.0; partly = all.1 }
 
 pub overflow_add-stack : goal.overflow_add-stack
 overflow_add-stack c = omega (arith, c.if-frame-ge-ITEM_BEGUN.false)
@@ -51,8 +38,5 @@ overflow_add-stack c = omega (arith, c.if-frame-ge-ITEM_BEGUN.false)
 pub bounds-stack-top-2 : goal.bounds-stack-top-2
 bounds-stack-top-2 c = c.requires.top_in_bounds
 
--- ASKED ['ready_after', 'partly']
 pub returns : goal.returns
-returns c =
-    let p = c.requires in
-    into _ _ _ _ _ _ _ p.1.0 p.1.1.0 p.1.1.1 c.if-frame-ge-ITEM_BEGUN.false _ c.read_row-words.ensures p.0
+returns c = let p = c.requires in let all = into _ _ _ _ _ _ _ p.1.0 p.1.1.0 p.1.1.1 c.if-frame-ge-ITEM_BEGUN.false _ c.read_row-words.ensures p.0 in record { ready_after = all.0; partly = all.1 }

@@ -8,13 +8,11 @@ loop-frames-init c =
     let p = c.requires in
     rises _ _ _ _ _ _ p.0 p.1
 
--- ASKED ['top_in_bounds', 'falling', 'room']
 pub put_frame-after-requires : goal.put_frame-after-requires
-put_frame-after-requires c = turn-fits _ _ _ _ _ _ _ _ _ _ c.loop-frames.invariant c.loop-frames-test.true
+put_frame-after-requires c = let all = turn-fits _ _ _ _ _ _ _ _ _ _ c.loop-frames.invariant c.loop-frames-test.true in record { top_in_bounds = all.0; falling = all.1; room = all.2 }
 
--- WARN put_frame-after.ensures whole: ['ready_after', 'partly']
 pub loop-frames-preserved : goal.loop-frames-preserved
-loop-frames-preserved c = turn-done _ _ _ _ _ _ _ _ _ _ c.loop-frames.invariant c.loop-frames-test.taken _ _ _ c.put_frame-after.kept.1.1.0 c.put_frame-after.kept.1.1.1.1.0 c.put_frame-after.ensures _ c.in-Done.is
+loop-frames-preserved c = turn-done _ _ _ _ _ _ _ _ _ _ c.loop-frames.invariant c.loop-frames-test.taken _ _ _ c.put_frame-after.kept.1.1.0 c.put_frame-after.kept.1.1.1.1.0 (c.put_frame-after.ensures.ready_after, c.put_frame-after.ensures.partly) _ c.in-Done.is
 
 pub shape_of-stack-in-Into : goal.shape_of-stack-in-Into
 shape_of-stack-in-Into c = c.put_frame-after.kept.1.1.0 ∙ c.loop-frames.invariant.same
@@ -22,10 +20,8 @@ shape_of-stack-in-Into c = c.put_frame-after.kept.1.1.0 ∙ c.loop-frames.invari
 pub shape_of-output-in-Into : goal.shape_of-output-in-Into
 shape_of-output-in-Into c = c.put_frame-after.kept.1.1.1.1.0 ∙ c.loop-frames.invariant.same-output
 
--- ASKED ['ready_rest', 'partly']
--- WARN put_frame-after.ensures whole: ['ready_after', 'partly']
 pub returns-in-Into : goal.returns-in-Into
-returns-in-Into c = turn-into _ _ _ _ _ _ _ _ _ _ c.loop-frames.invariant c.loop-frames-test.taken _ _ _ c.put_frame-after.kept.1.1.0 c.put_frame-after.kept.1.1.1.1.0 c.put_frame-after.ensures _ _ c.in-Into.is
+returns-in-Into c = let all = turn-into _ _ _ _ _ _ _ _ _ _ c.loop-frames.invariant c.loop-frames-test.taken _ _ _ c.put_frame-after.kept.1.1.0 c.put_frame-after.kept.1.1.1.1.0 (c.put_frame-after.ensures.ready_after, c.put_frame-after.ensures.partly) _ _ c.in-Into.is in record { ready_rest = all.0; partly = all.1 }
 
 pub shape_of-stack : goal.shape_of-stack
 shape_of-stack c = c.loop-frames.invariant.same
@@ -33,6 +29,5 @@ shape_of-stack c = c.loop-frames.invariant.same
 pub shape_of-output : goal.shape_of-output
 shape_of-output c = c.loop-frames.invariant.same-output
 
--- ASKED ['ready_rest', 'partly']
 pub returns : goal.returns
-returns c = none_left _ _ _ _ _ _ _ _ _ _ c.loop-frames.invariant c.loop-frames-test.false
+returns c = let all = none_left _ _ _ _ _ _ _ _ _ _ c.loop-frames.invariant c.loop-frames-test.false in record { ready_rest = all.0; partly = all.1 }
