@@ -8,4 +8,4 @@ pub put_integer-requires : goal.put_integer-requires
 put_integer-requires c = omega (arith, ap length c.from_halves-z.ensures)
 
 pub returns : goal.returns
-returns c = let all = rw c.from_halves-z.ensures at (c.put_integer.ensures.output_after, c.put_integer.ensures.value) in record { output_after = all.0; value = all.1 }
+returns c = record { output_after = rw c.from_halves-z.ensures at c.put_integer.ensures.output_after; value = rw c.from_halves-z.ensures at c.put_integer.ensures.value }

@@ -16,4 +16,4 @@ pub put_magnitude-requires-2 : goal.put_magnitude-requires-2
 put_magnitude-requires-2 c = rw c.if-negative.false at c.requires
 
 pub returns : goal.returns
-returns c = let all = rw c.if-negative.false (c.put_magnitude-2.ensures.output_after, c.put_magnitude-2.ensures.value) in record { output_after = all.0; value = all.1 }
+returns c = record { output_after = rw c.if-negative.false c.put_magnitude-2.ensures.output_after; value = rw c.if-negative.false c.put_magnitude-2.ensures.value }
