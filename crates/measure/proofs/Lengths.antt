@@ -305,7 +305,7 @@ module _ (message words : List ℕ) (used : ℕ) where
     pub all_judged : length lengths ≤ i → Judged true lengths₀ lengths
     all_judged h =
         let all : used ≤ i = omega (arith, m.same) in
-        (sym (J.ends message words used i all) ∙ m.judged-to, (λ s j l. m.measured s j (omega arith), sym (from-ends i lengths all) ∙ m.after))
+        (sym (J.ends message words used i all) ∙ m.judged_to, (λ s j l. m.measured s j (omega arith), sym (from-ends i lengths all) ∙ m.after))
 
     -- row i
     module _ (h : i < length lengths) {r : Row} (read : r ≡ row_in words i) where
@@ -317,7 +317,7 @@ module _ (message words : List ℕ) (used : ℕ) where
 
       pub row_fails : sound_row message i r ≡ false → Judged false lengths₀ lengths
       row_fails e =
-          unsound lengths₀ lengths (sym (J.row_fails message words used m.fits i within r read e) ∙ m.judged-to)
+          unsound lengths₀ lengths (sym (J.row_fails message words used m.fits i within r read e) ∙ m.judged_to)
           (sym (from-row_fails m.fits i within r read lengths e) ∙ m.after)
 
       module _ (own : sound_row message i r ≡ true) where
@@ -334,7 +334,7 @@ module _ (message words : List ℕ) (used : ℕ) where
 
         pub rest_fails : sound_rest r.kind (row_in words r.second).kind ≡ false → Judged false lengths₀ lengths
         rest_fails e =
-            unsound lengths₀ lengths (sym (J.rest_fails message words used m.fits i within r read own e) ∙ m.judged-to)
+            unsound lengths₀ lengths (sym (J.rest_fails message words used m.fits i within r read own e) ∙ m.judged_to)
             (sym (from-rest_fails m.fits i within r read lengths own e) ∙ m.after)
 
         pub next_row : sound_rest r.kind (row_in words r.second).kind ≡ true → {n word : ℕ} → n ≡ row_length (length_in lengths) r → word ≡ capped n → Measuring lengths₀ (set lengths i word) (i + 1)
@@ -342,7 +342,7 @@ module _ (message words : List ℕ) (used : ℕ) where
           fits = m.fits;
           same = length-set lengths i word ∙ m.same;
           after = rw (w, e) (sym (from-passes m.fits i within r read lengths own rest) ∙ m.after);
-          judged_to = sym (J.passes message words used m.fits i within r read own rest) ∙ m.judged-to;
+          judged_to = sym (J.passes message words used m.fits i within r read own rest) ∙ m.judged_to;
           measured = λ s j l. either j i (λ q. rw q (get_or-set_same lengths i word 0 h ∙ its_own s)) (λ q. get_or-set_other lengths i j word 0 (λ x. omega (arith, eqb-false j i q)) ∙ m.measured s j (omega (arith, eqb-false j i q)));
         }
           where

@@ -23,7 +23,7 @@ pub returns-then-not-judge : goal.returns-then-not-judge
 returns-then-not-judge c = λ scratch. rows_fail _ _ _ scratch _ (sym c.judge.ensures.value ∙ not-true _ c.if-not-judge.true-raw)
 
 pub fits-requires : goal.fits-requires
-fits-requires c = let sound = (sym c.judge.ensures.value ∙ not-false _ c.if-not-judge.false-raw) in let all = rw c.judge.kept.1.1.0 (whole _ _ _ c.requires _ sound, c.judge.ensures.measured.0 (subst T (sym sound) tt)) in record { t = all.0; measured = all.1 }
+fits-requires c = let sound = (sym c.judge.ensures.value ∙ not-false _ c.if-not-judge.false-raw) in record { t = rw c.judge.kept.1.1.0 (whole _ _ _ c.requires _ sound, c.judge.ensures.measured.0 (subst T (sym sound) tt)); measured = rw c.judge.kept.1.1.0 (whole _ _ _ c.requires _ sound, c.judge.ensures.measured.0 (subst T (sym sound) tt)) }
 
 -- WARN no field fits2 at After-fits (own fits)
 pub returns-then-not-fits : goal.returns-then-not-fits
@@ -35,7 +35,7 @@ returns-then-not-fits c =
 -- WARN no field fits2 at After-fits (own fits)
 -- WARN no field fits2 at After-fits (own fits)
 pub store_text-requires : goal.store_text-requires
-store_text-requires c = let all = rw (c.<<After-fits>>.fits2.auto.1.1.1.0, c.judge.auto.1.1.0) (whole _ _ _ c.requires _ ((sym c.judge.ensures.value ∙ not-false _ c.if-not-judge.false-raw)), leb-true _ _ (room c)) in record { t = all.0; root_in_bounds = all.1 }
+store_text-requires c = record { t = rw (c.<<After-fits>>.fits2.auto.1.1.1.0, c.judge.auto.1.1.0) (whole _ _ _ c.requires _ ((sym c.judge.ensures.value ∙ not-false _ c.if-not-judge.false-raw)), leb-true _ _ (room c)); root_in_bounds = rw (c.<<After-fits>>.fits2.auto.1.1.1.0, c.judge.auto.1.1.0) (whole _ _ _ c.requires _ ((sym c.judge.ensures.value ∙ not-false _ c.if-not-judge.false-raw)), leb-true _ _ (room c)) }
 
 -- WARN no field fits2 at After-fits (own fits)
 -- WARN no field fits2 at After-fits (own fits)

@@ -59,7 +59,7 @@ pub returns-then-message-i : goal.returns-then-message-i
 returns-then-message-i c = over _ _ _ _ c.loop-classes.invariant c.if-message-i.true _
 
 pub step-a-requires : goal.step-a-requires
-step-a-requires c = let all = ((c.if-message-i.false, c.requires.message_len_bound.0), (c.loop-classes.invariant.before.ready, c.classes-classes.ensures _ (omega (arith, c.shared_slice_known-in-loop-classes-1.given c.loop-classes.s.at.0)))) in record { at_in_bounds = all.0; ready = all.1; b_value = all.2 }
+step-a-requires c = let all = ((c.if-message-i.false, c.requires.message_len_bound.0), (c.loop-classes.invariant.before.ready, c.classes-classes.ensures _ (omega (arith, c.shared_slice_known-in-loop-classes-1.given c.loop-classes.s.at.0)))) in record { at_in_bounds = all.0; ready = all.1.0; b_value = all.1.1 }
 
 pub loop-classes-smaller : goal.loop-classes-smaller
 loop-classes-smaller c = omega (arith, c.if-message-i.left, (more c _ c.in-More.is).1)

@@ -13,7 +13,7 @@ pub put_fields-requires : goal.put_fields-requires
 unfolding frame_row
 put_fields-requires c =
     let p = c.requires in
-    let k = c.in-8.is in let all = ((p.0, rest-tuple _ _ _ _ _ _ p.1.0 p.1.1 _ c.read_row-words.ensures k), (rest-above _ _ _ _ _ _ p.1.0 p.1.1 _ c.read_row-words.ensures k, rest-room _ _ _ _ _ _ p.1.0 p.1.1 _ c.read_row-words.ensures k)) in record { top_in_bounds = all.0; above = all.1; room = all.2 }
+    let k = c.in-8.is in let all = ((p.0, rest-tuple _ _ _ _ _ _ p.1.0 p.1.1 _ c.read_row-words.ensures k), (rest-above _ _ _ _ _ _ p.1.0 p.1.1 _ c.read_row-words.ensures k, rest-room _ _ _ _ _ _ p.1.0 p.1.1 _ c.read_row-words.ensures k)) in record { top_in_bounds = all.0; above = all.1.0; room = all.1.1 }
 
 pub put_quoted-requires : goal.put_quoted-requires
 unfolding frame_row
@@ -21,7 +21,7 @@ put_quoted-requires c = let p = c.requires in let all = tag_fits _ _ _ _ _ _ p.1
 
 pub put_item-requires : goal.put_item-requires
 unfolding frame_row
-put_item-requires c = let p = c.requires in let all = (p.0, (p.1.0, (p.1.1, cell _ _ _ _ _ _ p.1.0 p.1.1 _ c.read_row-words.ensures c.in_default.in_default-own.rest.0.1 c.in_default.in_default-own.rest.1))) in record { top_in_bounds = all.0; falling = all.1; room = all.2; top_value = all.3 }
+put_item-requires c = let p = c.requires in let all = (p.0, (p.1.0, (p.1.1, cell _ _ _ _ _ _ p.1.0 p.1.1 _ c.read_row-words.ensures c.in_default.in_default-own.rest.0.1 c.in_default.in_default-own.rest.1))) in record { top_in_bounds = all.0; falling = all.1.0; room = all.1.1.0; top_value = all.1.1.1 }
 
 pub returns-in-8 : goal.returns-in-8
 unfolding frame_row

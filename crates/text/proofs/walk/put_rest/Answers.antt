@@ -9,7 +9,7 @@ loop-frames-init c =
     rises _ _ _ _ _ _ p.0 p.1
 
 pub put_frame-after-requires : goal.put_frame-after-requires
-put_frame-after-requires c = let all = turn-fits _ _ _ _ _ _ _ _ _ _ c.loop-frames.invariant c.loop-frames-test.true in record { top_in_bounds = all.0; falling = all.1; room = all.2 }
+put_frame-after-requires c = let all = turn-fits _ _ _ _ _ _ _ _ _ _ c.loop-frames.invariant c.loop-frames-test.true in record { top_in_bounds = all.0; falling = all.1.0; room = all.1.1 }
 
 pub loop-frames-preserved : goal.loop-frames-preserved
 loop-frames-preserved c = turn-done _ _ _ _ _ _ _ _ _ _ c.loop-frames.invariant c.loop-frames-test.taken _ _ _ c.put_frame-after.kept.1.1.0 c.put_frame-after.kept.1.1.1.1.0 (c.put_frame-after.ensures.ready_after, c.put_frame-after.ensures.partly) _ c.in-Done.is
