@@ -25,13 +25,13 @@ pub shape_of-rows_b-in-Refused-b : goal.shape_of-rows_b-in-Refused-b
 shape_of-rows_b-in-Refused-b c = c.decode-b.auto.1.0
 
 pub shape_of-stack-in-Refused-b : goal.shape_of-stack-in-Refused-b
-shape_of-stack-in-Refused-b c = c.decode-b.kept.1.1.0 ∙ c.decode-a.auto.1.1.0
+shape_of-stack-in-Refused-b c = c.decode-b.auto.1.1.0 ∙ c.decode-a.auto.1.1.0
 
 pub shape_of-marks-in-Refused-b : goal.shape_of-marks-in-Refused-b
-shape_of-marks-in-Refused-b c = c.decode-b.kept.1.1.1.0 ∙ c.decode-a.auto.1.1.1.0
+shape_of-marks-in-Refused-b c = c.decode-b.auto.1.1.1.0 ∙ c.decode-a.auto.1.1.1.0
 
 pub shape_of-registers-in-Refused-b : goal.shape_of-registers-in-Refused-b
-shape_of-registers-in-Refused-b c = c.decode-b.kept.1.1.1.1.0 ∙ c.decode-a.auto.1.1.1.1.0
+shape_of-registers-in-Refused-b c = c.decode-b.auto.1.1.1.1.0 ∙ c.decode-a.auto.1.1.1.1.0
 
 pub returns-in-Refused-b : goal.returns-in-Refused-b
 returns-in-Refused-b c = let all = second-refused _ _ _ _ _ _ _ c.decode-a.ensures _ _ _ c.in-Accepted.is _ _ c.decode-b.ensures _ _ c.in-Refused-b.is in record { value = all.0; scratch_after = all.1 }
@@ -43,13 +43,13 @@ pub shape_of-rows_b-in-Accepted-b : goal.shape_of-rows_b-in-Accepted-b
 shape_of-rows_b-in-Accepted-b c = c.decode-b.auto.1.0
 
 pub shape_of-stack-in-Accepted-b : goal.shape_of-stack-in-Accepted-b
-shape_of-stack-in-Accepted-b c = c.decode-b.kept.1.1.0 ∙ c.decode-a.auto.1.1.0
+shape_of-stack-in-Accepted-b c = c.decode-b.auto.1.1.0 ∙ c.decode-a.auto.1.1.0
 
 pub shape_of-marks-in-Accepted-b : goal.shape_of-marks-in-Accepted-b
-shape_of-marks-in-Accepted-b c = c.decode-b.kept.1.1.1.0 ∙ c.decode-a.auto.1.1.1.0
+shape_of-marks-in-Accepted-b c = c.decode-b.auto.1.1.1.0 ∙ c.decode-a.auto.1.1.1.0
 
 pub shape_of-registers-in-Accepted-b : goal.shape_of-registers-in-Accepted-b
-shape_of-registers-in-Accepted-b c = c.decode-b.kept.1.1.1.1.0 ∙ c.decode-a.auto.1.1.1.1.0
+shape_of-registers-in-Accepted-b c = c.decode-b.auto.1.1.1.1.0 ∙ c.decode-a.auto.1.1.1.1.0
 
 pub returns-in-Accepted-b : goal.returns-in-Accepted-b
 returns-in-Accepted-b c = let promise = (c.compare.ensures.scratch_after, c.compare.ensures.fact) in let all = both-accepted _ _ _ _ _ _ _ c.decode-a.ensures _ _ _ c.in-Accepted.is _ _ c.decode-b.ensures _ _ _ c.in-Accepted-b.is _ _ promise.0 promise.1 _ c.verdict_of.ensures in record { value = all.0; scratch_after = all.1 }

@@ -9,4 +9,4 @@ pub returns-then-scratch-used : goal.returns-then-scratch-used
 returns-then-scratch-used c = short-scratch _ _ _ _ _ _ c.if-message-gt-MESSAGE_BYTES.false c.if-scratch-used.true
 
 pub returns : goal.returns
-returns c = cleared _ _ _ _ _ _ _ _ _ _ c.write_table-answer.auto.1.1.1.1.0 c.clear.ensures c.write_table-answer.ensures
+returns c = cleared _ _ _ _ _ _ _ _ _ _ c.write_table-answer.auto.scratch c.clear.ensures c.write_table-answer.ensures

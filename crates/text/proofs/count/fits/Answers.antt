@@ -9,17 +9,11 @@ use Rattle.format.specs.Text.{plain}
 use Rattle.text.proofs.Counts.{to_count, some_word, begins, whole, top-inside, top-bound, named_fit, room-enough, too_long, next, less}
 use Rattle.text.proofs.count.fits.Goals as goal
 
--- whether all fits is whether the plain text does
-text-fits : (c : tie.At-loop invariant-loop decreases-loop) {b : Bool}
-    → (let stack = set (call c).args.stack.now 0 (call c).args.root.0 in b ≡ leb (to_count (call c).args.message.now (call c).args.rows.now (length stack) stack 1) (call c).args.room)
-    → b ≡ leb (length (plain (term_at (call c).args.message.now (rows_of (length (call c).args.stack.now) (call c).args.rows.now) (call c).args.root.0))) (call c).args.room
-text-fits c e = rw (whole _ _ (call c).args.stack.now (call c).args.root.0 (call c).requires) at e
+pub offset_bounds-stack-top : goal.offset_bounds-stack-top
+offset_bounds-stack-top c = omega (arith, top-bound _ _ _ _ _ _ _ _ c.loop-depth.invariant c.loop-depth-test.true)
 
-mul-t13 : tie.Need-overflow-mul-t13 invariant-loop decreases-loop
-mul-t13 c = omega (arith, top-bound _ _ _ _ _ _ _ _ c.before.loop.invariant c.loop-test.true)
-
-slice-read-t15 : tie.Need-slice-read-t15 invariant-loop decreases-loop
-slice-read-t15 c = top-inside _ _ _ _ _ _ _ _ c.before.before.loop.invariant c.before.loop-test.true
+pub bounds-stack-top : goal.bounds-stack-top
+bounds-stack-top c = top-inside _ _ _ _ _ _ _ _ c.loop-depth.invariant c.loop-depth-test.true
 
 pub bounds-stack-0 : goal.bounds-stack-0
 bounds-stack-0 c = some_word c.args.message.now c.args.rows.now c.args.stack.now c.args.root.0 c.requires
@@ -31,19 +25,23 @@ pub shape_of-stack-then-left-n : goal.shape_of-stack-then-left-n
 shape_of-stack-then-left-n c = c.loop-depth.invariant.same ∙ length-set c.args.stack.now 0 _
 
 pub returns-then-left-n : goal.returns-then-left-n
-returns-then-left-n c = text-fits c (too_long _ _ _ _ _ _ _ _ c.loop-depth.invariant c.loop-depth-test.taken _ c.load_row-words.ensures _ c.own_length-n.ensures c.if-left-n.true)
+returns-then-left-n c =
+    let long = too_long _ _ _ _ _ _ _ _ c.loop-depth.invariant c.loop-depth-test.true _ c.load_row-words.ensures _ c.own_length-n.ensures c.if-left-n.true in
+    rw (whole _ _ c.args.stack.now c.args.root.0 c.requires) at long
 
 pub put_named-depth-requires : goal.put_named-depth-requires
-put_named-depth-requires c = named_fit _ _ _ _ _ _ _ _ c.loop-depth.invariant c.loop-depth-test.taken _ c.load_row-words.ensures
+put_named-depth-requires c = named_fit _ _ _ _ _ _ _ _ c.loop-depth.invariant c.loop-depth-test.true _ c.load_row-words.ensures
 
 pub loop-depth-smaller : goal.loop-depth-smaller
-loop-depth-smaller c = less _ _ _ _ _ _ _ _ c.loop-depth.invariant c.loop-depth-test.taken _ c.load_row-words.ensures _ c.own_length-n.ensures _ _ c.put_named-depth.auto.0 c.put_named-depth.ensures
+loop-depth-smaller c = less _ _ _ _ _ _ _ _ c.loop-depth.invariant c.loop-depth-test.true _ c.load_row-words.ensures _ c.own_length-n.ensures _ _ c.put_named-depth.auto.stack c.put_named-depth.ensures
 
 pub loop-depth-preserved : goal.loop-depth-preserved
-loop-depth-preserved c = next _ _ _ _ _ _ _ _ c.loop-depth.invariant c.loop-depth-test.taken _ c.load_row-words.ensures _ c.own_length-n.ensures _ _ c.put_named-depth.auto.0 c.put_named-depth.ensures c.if-left-n.false
+loop-depth-preserved c = next _ _ _ _ _ _ _ _ c.loop-depth.invariant c.loop-depth-test.true _ c.load_row-words.ensures _ c.own_length-n.ensures _ _ c.put_named-depth.auto.stack c.put_named-depth.ensures c.if-left-n.false
 
 pub shape_of-stack : goal.shape_of-stack
 shape_of-stack c = c.loop-depth.invariant.same ∙ length-set c.args.stack.now 0 _
 
 pub returns : goal.returns
-returns c = text-fits c (room-enough _ _ _ _ _ _ _ _ c.loop-depth.invariant c.loop-depth-test.false)
+returns c =
+    let enough = room-enough _ _ _ _ _ _ _ _ c.loop-depth.invariant c.loop-depth-test.false in
+    rw (whole _ _ c.args.stack.now c.args.root.0 c.requires) at enough

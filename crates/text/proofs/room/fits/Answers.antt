@@ -16,6 +16,5 @@ returns-then-room c = too_long _ _ _ (c.requires.measured _ ((passed _ _ _ _ c.r
 pub fits-requires : goal.fits-requires
 fits-requires c = c.requires.t
 
--- WARN no field fits2 at After-fits (own fits)
 pub returns : goal.returns
-returns c = c.<<After-fits>>.fits2.ensures
+returns c = c.fits.ensures

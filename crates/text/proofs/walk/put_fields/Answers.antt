@@ -10,10 +10,10 @@ use Rattle.text.proofs.Fields.{starts, stack-length, into, leaf-fits, next, earl
 use Rattle.text.proofs.walk.put_fields.Goals as goal
 
 pub read_row-words-requires : goal.read_row-words-requires
-read_row-words-requires c = above-room c.args.message.now _ _ c.requires.above.1.fits _ (last_first c.args.stack.now c.args.top) c.requires.above.0
+read_row-words-requires c = above-room c.args.message.now _ _ c.requires.room.fits _ (last_first c.args.stack.now c.args.top) c.requires.above
 
 pub loop-words-init : goal.loop-words-init
-loop-words-init c = starts _ _ _ _ _ _ _ c.requires.above.0 c.requires.top_in_bounds.1 c.requires.above.1 c.read_row-words.ensures
+loop-words-init c = starts _ _ _ _ _ _ _ c.requires.above c.requires.top_in_bounds.1 c.requires.room c.read_row-words.ensures
 
 pub read_row-field-requires : goal.read_row-field-requires
 read_row-field-requires c = (names-room _ _ _ _ _ _ _ _ _ _ _ _ c.loop-words.invariant c.loop-words-test.true).0
@@ -52,7 +52,7 @@ pub shape_of-stack : goal.shape_of-stack
 shape_of-stack c = ap length c.loop-words.invariant.same
 
 pub shape_of-output : goal.shape_of-output
-shape_of-output c = c.put_byte.auto.0 ∙ c.loop-words.invariant.same-output
+shape_of-output c = c.put_byte.auto.output ∙ c.loop-words.invariant.same-output
 
 pub returns : goal.returns
 returns c = let all = closed _ _ _ _ _ _ _ _ _ _ _ _ c.loop-words.invariant c.loop-words-test.false _ _ (c.put_byte.ensures.output_after, c.put_byte.ensures.value) in record { ready_after = all.0; partly = all.1 }

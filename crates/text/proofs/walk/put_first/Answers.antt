@@ -41,7 +41,7 @@ pub shape_of-stack : goal.shape_of-stack
 shape_of-stack c = c.loop-n.invariant.same
 
 pub shape_of-output : goal.shape_of-output
-shape_of-output c = c.put.auto.1.0 ∙ c.loop-n.invariant.same-output
+shape_of-output c = c.put.auto.output ∙ c.loop-n.invariant.same-output
 
 pub returns : goal.returns
 returns c = let all = leaf-stored _ _ _ _ _ _ _ _ _ _ _ _ _ c.loop-n.invariant ((sym c.is_leaf.ensures ∙ not-false _ c.loop-n-test.false-raw)) _ _ (c.put.ensures.output_after, c.put.ensures.value) in record { falling = all.0; partly = all.1.0; at_lt_at = all.1.1 }

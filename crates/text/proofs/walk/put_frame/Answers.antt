@@ -1,4 +1,5 @@
 -- `text::walk::put_frame` meets its contract: a turn of the frame by the kind of its row.
+use native.Mathlib.Omega.{arith}
 use Rattle.table.specs.Words.{last_first}
 use Rattle.text.specs.Walk.{frame_row}
 use Rattle.text.proofs.Frames.{above-room}
@@ -7,29 +8,36 @@ use Rattle.text.proofs.walk.put_frame.Goals as goal
 
 pub read_row-words-requires : goal.read_row-words-requires
 unfolding frame_row
-read_row-words-requires c = above-room c.args.message.now _ _ c.requires.falling.1.fits _ (last_first c.args.stack.now c.args.top) c.requires.falling.0.1
+read_row-words-requires c = above-room c.args.message.now _ _ c.requires.room.fits _ (last_first c.args.stack.now c.args.top) c.requires.falling.1
 
 pub put_fields-requires : goal.put_fields-requires
 unfolding frame_row
-put_fields-requires c =
-    let p = c.requires in
-    let k = c.in-8.is in let all = ((p.0, rest-tuple _ _ _ _ _ _ p.1.0 p.1.1 _ c.read_row-words.ensures k), (rest-above _ _ _ _ _ _ p.1.0 p.1.1 _ c.read_row-words.ensures k, rest-room _ _ _ _ _ _ p.1.0 p.1.1 _ c.read_row-words.ensures k)) in record { top_in_bounds = all.0; above = all.1.0; room = all.1.1 }
+put_fields-requires c = record {
+  top_in_bounds = (c.requires.top_in_bounds, rest-tuple _ _ _ _ _ _ c.requires.falling c.requires.room _ c.read_row-words.ensures c.in-8.is);
+  above = rest-above _ _ _ _ _ _ c.requires.falling c.requires.room _ c.read_row-words.ensures c.in-8.is;
+  room = rest-room _ _ _ _ _ _ c.requires.falling c.requires.room _ c.read_row-words.ensures c.in-8.is;
+}
 
 pub put_quoted-requires : goal.put_quoted-requires
 unfolding frame_row
-put_quoted-requires c = let p = c.requires in let all = tag_fits _ _ _ _ _ _ p.1.0 p.1.1 _ c.read_row-words.ensures c.in-9.is in record { n_in_bounds = all.0; n_in_bounds_2 = all.1 }
+put_quoted-requires c = let all = tag_fits _ _ _ _ _ _ c.requires.falling c.requires.room _ c.read_row-words.ensures c.in-9.is in record { n_in_bounds = all.0; n_in_bounds_2 = all.1 }
 
 pub put_item-requires : goal.put_item-requires
 unfolding frame_row
-put_item-requires c = let p = c.requires in let all = (p.0, (p.1.0, (p.1.1, cell _ _ _ _ _ _ p.1.0 p.1.1 _ c.read_row-words.ensures c.in_default.in_default-own.rest.0.1 c.in_default.in_default-own.rest.1))) in record { top_in_bounds = all.0; falling = all.1.0; room = all.1.1.0; top_value = all.1.1.1 }
+put_item-requires c = record {
+  top_in_bounds = c.requires.top_in_bounds;
+  falling = c.requires.falling;
+  room = c.requires.room;
+  top_value = cell _ _ _ _ _ _ c.requires.falling c.requires.room _ c.read_row-words.ensures (λ e. omega arith) (λ e. omega arith);
+}
 
 pub returns-in-8 : goal.returns-in-8
 unfolding frame_row
-returns-in-8 c = let p = c.requires in let all = fields_turned _ _ _ _ _ _ p.1.0 p.1.1 _ c.read_row-words.ensures c.in-8.is _ _ _ (c.put_fields.ensures.ready_after, c.put_fields.ensures.partly) in record { ready_after = all.0; partly = all.1 }
+returns-in-8 c = let all = fields_turned _ _ _ _ _ _ c.requires.falling c.requires.room _ c.read_row-words.ensures c.in-8.is _ _ _ (c.put_fields.ensures.ready_after, c.put_fields.ensures.partly) in record { ready_after = all.0; partly = all.1 }
 
 pub returns-in-9 : goal.returns-in-9
 unfolding frame_row
-returns-in-9 c = let p = c.requires in let all = tag-turned _ _ _ _ _ _ p.1.0 p.1.1 _ c.read_row-words.ensures c.in-9.is _ _ (c.put_quoted.ensures.output_after, c.put_quoted.ensures.value) in record { ready_after = all.0; partly = all.1 }
+returns-in-9 c = let all = tag-turned _ _ _ _ _ _ c.requires.falling c.requires.room _ c.read_row-words.ensures c.in-9.is _ _ (c.put_quoted.ensures.output_after, c.put_quoted.ensures.value) in record { ready_after = all.0; partly = all.1 }
 
 pub returns-in_default : goal.returns-in_default
 returns-in_default c = record { ready_after = c.put_item.ensures.ready_after; partly = c.put_item.ensures.partly }
