@@ -14,4 +14,4 @@ pub run-answer-requires : goal.run-answer-requires
 run-answer-requires c = record { message_len_bound = (c.if-message-gt-MESSAGE_BYTES.left, omega arith); registers_value = is-zeroed _ _ c.clear.ensures }
 
 pub returns : goal.returns
-returns c = decoded _ _ _ _ _ _ c.clear.ensures c.if-message-gt-MESSAGE_BYTES.left c.if-registers-lt-REGISTER_WORDS.left _ _ (record { rows = sym c.run-answer.auto.1.0; stack = sym c.run-answer.auto.1.1.0; marks = sym c.run-answer.auto.1.1.1.0; registers = sym c.run-answer.auto.1.1.1.1.0 }) _ c.run-answer.ensures c.settle.ensures
+returns c = decoded _ _ _ _ _ _ c.clear.ensures c.if-message-gt-MESSAGE_BYTES.left c.if-registers-lt-REGISTER_WORDS.left _ _ (record { rows = sym c.run-answer.auto.rows; stack = sym c.run-answer.auto.stack; marks = sym c.run-answer.auto.marks; registers = sym c.run-answer.auto.registers }) _ c.run-answer.ensures c.settle.ensures

@@ -71,31 +71,31 @@ pub overflow_add-result : goal.overflow_add-result
 overflow_add-result c = omega (arith, c.if-message-i.left, c.requires.message_len_bound.0)
 
 pub shape_of-rows-in-Done : goal.shape_of-rows-in-Done
-shape_of-rows-in-Done c = sym ((chain c.loop-classes.invariant.same ((record { rows = sym c.step-a.auto.1.1.0; stack = sym c.step-a.auto.1.1.1.0; marks = sym c.step-a.auto.1.1.1.1.0; registers = sym c.step-a.auto.1.1.1.1.1.0 })))).rows
+shape_of-rows-in-Done c = sym ((chain c.loop-classes.invariant.same ((record { rows = sym c.step-a.auto.rows; stack = sym c.step-a.auto.stack; marks = sym c.step-a.auto.marks; registers = sym c.step-a.auto.registers })))).rows
 
 pub shape_of-stack-in-Done : goal.shape_of-stack-in-Done
-shape_of-stack-in-Done c = sym ((chain c.loop-classes.invariant.same ((record { rows = sym c.step-a.auto.1.1.0; stack = sym c.step-a.auto.1.1.1.0; marks = sym c.step-a.auto.1.1.1.1.0; registers = sym c.step-a.auto.1.1.1.1.1.0 })))).stack
+shape_of-stack-in-Done c = sym ((chain c.loop-classes.invariant.same ((record { rows = sym c.step-a.auto.rows; stack = sym c.step-a.auto.stack; marks = sym c.step-a.auto.marks; registers = sym c.step-a.auto.registers })))).stack
 
 pub shape_of-marks-in-Done : goal.shape_of-marks-in-Done
-shape_of-marks-in-Done c = sym ((chain c.loop-classes.invariant.same ((record { rows = sym c.step-a.auto.1.1.0; stack = sym c.step-a.auto.1.1.1.0; marks = sym c.step-a.auto.1.1.1.1.0; registers = sym c.step-a.auto.1.1.1.1.1.0 })))).marks
+shape_of-marks-in-Done c = sym ((chain c.loop-classes.invariant.same ((record { rows = sym c.step-a.auto.rows; stack = sym c.step-a.auto.stack; marks = sym c.step-a.auto.marks; registers = sym c.step-a.auto.registers })))).marks
 
 pub shape_of-registers-in-Done : goal.shape_of-registers-in-Done
-shape_of-registers-in-Done c = sym ((chain c.loop-classes.invariant.same ((record { rows = sym c.step-a.auto.1.1.0; stack = sym c.step-a.auto.1.1.1.0; marks = sym c.step-a.auto.1.1.1.1.0; registers = sym c.step-a.auto.1.1.1.1.1.0 })))).registers
+shape_of-registers-in-Done c = sym ((chain c.loop-classes.invariant.same ((record { rows = sym c.step-a.auto.rows; stack = sym c.step-a.auto.stack; marks = sym c.step-a.auto.marks; registers = sym c.step-a.auto.registers })))).registers
 
 pub returns-in-Done : goal.returns-in-Done
 returns-in-Done c = ends (c) _ c.in-Done.is
 
 pub shape_of-rows-in-Refused : goal.shape_of-rows-in-Refused
-shape_of-rows-in-Refused c = sym ((chain c.loop-classes.invariant.same ((record { rows = sym c.step-a.auto.1.1.0; stack = sym c.step-a.auto.1.1.1.0; marks = sym c.step-a.auto.1.1.1.1.0; registers = sym c.step-a.auto.1.1.1.1.1.0 })))).rows
+shape_of-rows-in-Refused c = sym ((chain c.loop-classes.invariant.same ((record { rows = sym c.step-a.auto.rows; stack = sym c.step-a.auto.stack; marks = sym c.step-a.auto.marks; registers = sym c.step-a.auto.registers })))).rows
 
 pub shape_of-stack-in-Refused : goal.shape_of-stack-in-Refused
-shape_of-stack-in-Refused c = sym ((chain c.loop-classes.invariant.same ((record { rows = sym c.step-a.auto.1.1.0; stack = sym c.step-a.auto.1.1.1.0; marks = sym c.step-a.auto.1.1.1.1.0; registers = sym c.step-a.auto.1.1.1.1.1.0 })))).stack
+shape_of-stack-in-Refused c = sym ((chain c.loop-classes.invariant.same ((record { rows = sym c.step-a.auto.rows; stack = sym c.step-a.auto.stack; marks = sym c.step-a.auto.marks; registers = sym c.step-a.auto.registers })))).stack
 
 pub shape_of-marks-in-Refused : goal.shape_of-marks-in-Refused
-shape_of-marks-in-Refused c = sym ((chain c.loop-classes.invariant.same ((record { rows = sym c.step-a.auto.1.1.0; stack = sym c.step-a.auto.1.1.1.0; marks = sym c.step-a.auto.1.1.1.1.0; registers = sym c.step-a.auto.1.1.1.1.1.0 })))).marks
+shape_of-marks-in-Refused c = sym ((chain c.loop-classes.invariant.same ((record { rows = sym c.step-a.auto.rows; stack = sym c.step-a.auto.stack; marks = sym c.step-a.auto.marks; registers = sym c.step-a.auto.registers })))).marks
 
 pub shape_of-registers-in-Refused : goal.shape_of-registers-in-Refused
-shape_of-registers-in-Refused c = sym ((chain c.loop-classes.invariant.same ((record { rows = sym c.step-a.auto.1.1.0; stack = sym c.step-a.auto.1.1.1.0; marks = sym c.step-a.auto.1.1.1.1.0; registers = sym c.step-a.auto.1.1.1.1.1.0 })))).registers
+shape_of-registers-in-Refused c = sym ((chain c.loop-classes.invariant.same ((record { rows = sym c.step-a.auto.rows; stack = sym c.step-a.auto.stack; marks = sym c.step-a.auto.marks; registers = sym c.step-a.auto.registers })))).registers
 
 pub returns-in-Refused : goal.returns-in-Refused
 returns-in-Refused c = refuses (c) _ _ c.in-Refused.is
