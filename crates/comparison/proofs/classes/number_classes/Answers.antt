@@ -8,17 +8,26 @@ use Rattle.comparison.proofs.Searches.{few, one_more, all_known}
 use Rattle.comparison.proofs.classes.number_classes.Goals as goal
 
 pub overflow_add-end : goal.overflow_add-end
-overflow_add-end c = omega (arith, (let a = c.args in (few (side a.message-a.now a.rows-a.now a.used-a) c.requires.0, few (side a.message-b.now a.rows-b.now a.used-b) c.requires.1)))
+overflow_add-end c =
+    let a = c.args in
+    omega (arith, few (side a.message_a.now a.rows_a.now a.used_a) c.requires.0, few (side a.message_b.now a.rows_b.now a.used_b) c.requires.1)
 
 pub loop-n-init : goal.loop-n-init
 unfolding class_list
 loop-n-init c = (omega arith, (refl, refl))
 
 pub class_of-found-requires : goal.class_of-found-requires
-class_of-found-requires c = let all = ((c.requires.0, c.requires.1), ((c.requires.2 ∙ sym c.loop-n.invariant.1.0, c.loop-n-test.true), c.loop-n.invariant.1.1)) in record { sound = all.0; used_b_value = all.1; classes_value = all.2 }
+class_of-found-requires c =
+    record {
+      sound = (c.requires.0, c.requires.1);
+      used_b_value = (c.requires.2 ∙ sym c.loop-n.invariant.1.0, c.loop-n-test.true);
+      classes_value = c.loop-n.invariant.1.1;
+    }
 
 pub overflow_add-n : goal.overflow_add-n
-overflow_add-n c = omega (arith, (let a = c.args in (few (side a.message-a.now a.rows-a.now a.used-a) c.requires.0, few (side a.message-b.now a.rows-b.now a.used-b) c.requires.1)))
+overflow_add-n c =
+    let a = c.args in
+    omega (arith, few (side a.message_a.now a.rows_a.now a.used_a) c.requires.0, few (side a.message_b.now a.rows_b.now a.used_b) c.requires.1)
 
 pub loop-n-preserved : goal.loop-n-preserved
 loop-n-preserved c =

@@ -1,6 +1,5 @@
 -- `comparison::same::same_row` meets its contract: each arm is the definition's at its kind.
 use mathlib.Core.Path.{refl, sym, ◌∙◌}
-use borrow.Author.Tests.{not-true, not-false}
 use Rattle.format.specs.Rows.{integer_kind, atom_kind, string_kind, binary_kind, nil_kind, cons_kind, end_kind, field_kind, tag_kind}
 use Rattle.table.specs.Words.{row_of}
 use Rattle.comparison.specs.Same.{placed, has_span, same_content}
@@ -13,24 +12,31 @@ returns-then-k-y c = other-kind _ _ _ c.if-k-y.true
 
 pub same_span-requires : goal.same_span-requires
 unfolding has_span
-same_span-requires c = insides ((let a = c.args in placed a.message-x.now a.base-x (row_of a.x))) ((let a = c.args in placed a.message-y.now a.base-y (row_of a.y))) c.requires.0 c.requires.1 c.if-k-y.false atom_kind tt c.in-2.is
+same_span-requires c =
+    let a = c.args in
+    insides (placed a.message_x.now a.base_x (row_of a.x)) (placed a.message_y.now a.base_y (row_of a.y)) c.requires.0 c.requires.1 c.if-k-y.false atom_kind tt c.in-2.is
 
 pub same_span-requires-in-3 : goal.same_span-requires-in-3
 unfolding has_span
-same_span-requires-in-3 c = insides ((let a = c.args in placed a.message-x.now a.base-x (row_of a.x))) ((let a = c.args in placed a.message-y.now a.base-y (row_of a.y))) c.requires.0 c.requires.1 c.if-k-y.false string_kind tt c.in-3.is
+same_span-requires-in-3 c =
+    let a = c.args in
+    insides (placed a.message_x.now a.base_x (row_of a.x)) (placed a.message_y.now a.base_y (row_of a.y)) c.requires.0 c.requires.1 c.if-k-y.false string_kind tt c.in-3.is
 
 pub same_span-requires-in-4 : goal.same_span-requires-in-4
 unfolding has_span
-same_span-requires-in-4 c = insides ((let a = c.args in placed a.message-x.now a.base-x (row_of a.x))) ((let a = c.args in placed a.message-y.now a.base-y (row_of a.y))) c.requires.0 c.requires.1 c.if-k-y.false binary_kind tt c.in-4.is
+same_span-requires-in-4 c =
+    let a = c.args in
+    insides (placed a.message_x.now a.base_x (row_of a.x)) (placed a.message_y.now a.base_y (row_of a.y)) c.requires.0 c.requires.1 c.if-k-y.false binary_kind tt c.in-4.is
 
 pub returns-then-not-same_class : goal.returns-then-not-same_class
 unfolding same_content
-returns-then-not-same_class c = of_kind _ _ _ c.if-k-y.false tag_kind c.in-9.is (rw (sym c.same_class.ensures ∙ not-true _ c.if-not-same_class.true-raw))
+returns-then-not-same_class c = of_kind _ _ _ c.if-k-y.false tag_kind c.in-9.is (rw (sym c.same_class.ensures ∙ c.if-not-same_class.true))
 
 pub same_span-requires-in-9 : goal.same_span-requires-in-9
 unfolding has_span
 same_span-requires-in-9 c =
-    let inside = insides ((let a = c.args in placed a.message-x.now a.base-x (row_of a.x))) ((let a = c.args in placed a.message-y.now a.base-y (row_of a.y))) c.requires.0 c.requires.1 c.if-k-y.false tag_kind tt c.in-9.is in
+    let a = c.args in
+    let inside = insides (placed a.message_x.now a.base_x (row_of a.x)) (placed a.message_y.now a.base_y (row_of a.y)) c.requires.0 c.requires.1 c.if-k-y.false tag_kind tt c.in-9.is in
     search rules
 
 pub returns-in-1 : goal.returns-in-1
@@ -67,7 +73,7 @@ returns-in-8 c = of_kind _ _ _ c.if-k-y.false field_kind c.in-8.is c.same_cell-i
 
 pub returns-else-not-same_class : goal.returns-else-not-same_class
 unfolding same_content
-returns-else-not-same_class c = of_kind _ _ _ c.if-k-y.false tag_kind c.in-9.is (rw (sym c.same_class.ensures ∙ not-false _ c.if-not-same_class.false-raw) c.same_span-in-9.ensures)
+returns-else-not-same_class c = of_kind _ _ _ c.if-k-y.false tag_kind c.in-9.is (rw (sym c.same_class.ensures ∙ c.if-not-same_class.false) c.same_span-in-9.ensures)
 
 pub returns-in_default : goal.returns-in_default
-returns-in_default c = no_kind _ _ _ c.if-k-y.false c.in_default.in_default-own.rest
+returns-in_default c = no_kind _ _ _ c.if-k-y.false (search rules)
