@@ -8,9 +8,7 @@ use Rattle.lexer.specs.Integer.{with_sign}
 use Rattle.lexer.specs.declared.integer.Begun.{Begun}
 use Rattle.lexer.specs.declared.integer.Begun.TheVariants.{Minus, Digits}
 use Rattle.lexer.specs.declared.integer.Integer.{Integer}
-use Rattle.lexer.specs.declared.integer.Integer.TheVariants as Integer
 use Rattle.lexer.specs.declared.quoted.Quoted.{Quoted}
-use Rattle.lexer.specs.declared.quoted.Quoted.TheVariants as Quoted
 use Rattle.literals.specs.declared.binary.Count.{Count}
 use Rattle.literals.specs.declared.binary.Count.TheVariants.{Of, NoInteger, Negative}
 use Rattle.machine.specs.declared.state.Answer.{Answer}

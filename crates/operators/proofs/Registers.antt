@@ -31,7 +31,6 @@ use Rattle.machine.proofs.Passes.{no_row}
 use mathlib.Core.Logic.{◌⊎◌, ⊎_elim}
 use denote.Enum.Declared.{tag_of}
 use Rattle.lexer.specs.declared.register.Register.{Register}
-use Rattle.lexer.specs.declared.register.Register.TheVariants as Register
 use Rattle.lexer.specs.contracts.register.Register as R
 
 -- a register's word after a store
