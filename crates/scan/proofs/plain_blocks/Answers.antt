@@ -6,11 +6,8 @@ use Rattle.scan.proofs.plain_blocks.Goals as goal
 pub loop-i-init : goal.loop-i-init
 loop-i-init c = (laws.begins _ _ (omega arith), omega arith)
 
-pub returns-then-marks_in_block-ne0 : goal.returns-then-marks_in_block-ne0
-returns-then-marks_in_block-ne0 c = c.loop-i.invariant
-
 pub loop-i-preserved : goal.loop-i-preserved
-loop-i-preserved c = (laws.further _ _ c.loop-i.invariant.0 (c.marks_in_block.ensures c.if-marks_in_block-ne0.false), omega arith)
+loop-i-preserved c = (laws.further _ _ c.loop-i.invariant.0 (c.marks_in_block.ensures (omega arith)), omega arith)
 
 pub returns : goal.returns
 returns c = c.loop-i.invariant
