@@ -6,24 +6,22 @@ use Rattle.words.proofs.Blocks as laws
 use Rattle.words.proofs.word_in.Goals as goal
 
 pub returns-then-n-width-ne0 : goal.returns-then-n-width-ne0
-returns-then-n-width-ne0 c = let all = laws.uneven _ _ _ c.requires.0 _ _ c.if-n-width-ne0.true in record { result_value = all.0; fact = all.1 }
+returns-then-n-width-ne0 c =
+    let all = laws.uneven _ _ _ c.requires.0 _ _ c.if-n-width-ne0.true in
+    record { result_value = all.0; fact = all.1 }
 
 pub returns-then-n-width : goal.returns-then-n-width
-returns-then-n-width c = let all = laws.no_word _ _ _ c.requires.0 _ _ c.if-n-width-ne0.false c.if-n-width.true in record { result_value = all.0; fact = all.1 }
-
-pub overflow_mul-at : goal.overflow_mul-at
-overflow_mul-at c = omega (arith, (laws.word_end c.args.message.now _ _ c.requires.0 c.args.layout _ c.if-n-width.false))
-
-pub overflow_add-at : goal.overflow_add-at
-overflow_add-at c = omega (arith, (laws.word_end c.args.message.now _ _ c.requires.0 c.args.layout _ c.if-n-width.false))
-
-pub join-bits-requires : goal.join-bits-requires
-join-bits-requires c = ((laws.word_end c.args.message.now _ _ c.requires.0 c.args.layout _ c.if-n-width.false), omega (arith, c.requires.2))
+returns-then-n-width c =
+    let all = laws.no_word _ _ _ c.requires.0 _ _ c.if-n-width-ne0.false c.if-n-width.true in
+    record { result_value = all.0; fact = all.1 }
 
 pub number-requires : goal.number-requires
 number-requires c =
     let p = c.requires in
-    (p.1, p.2, laws.bits_below _ _ _ p.0 c.args.layout _ c.if-n-width.false (λ i. omega (arith, c.shared_slice_known-1.given i)) _ _ c.join-bits.ensures)
+    (p.1, p.2, laws.bits_below _ _ _ p.0 c.args.layout _ c.if-n-width.false (λ i. omega (arith, c.type_inv.message i)) _ _ c.join-bits.ensures)
 
 pub returns : goal.returns
-returns c = let told = laws.one_word _ _ _ c.requires.0 _ _ c.if-n-width.false c.if-n-width-ne0.false _ c.join-bits.ensures _ c.number.ensures in let all = rw (to_z-of_z w64 c.number.result (record { sfits = c.number.type-inv })) told in record { result_value = all.0; fact = all.1 }
+returns c =
+    let told = laws.one_word _ _ _ c.requires.0 _ _ c.if-n-width.false c.if-n-width-ne0.false _ c.join-bits.ensures _ c.number.ensures in
+    let kept = to_z-of_z w64 c.number.result (record { sfits = c.number.type_inv }) in
+    record { result_value = rw kept told.0; fact = rw kept told.1 }

@@ -6,11 +6,10 @@ use Rattle.words.proofs.Names.{known-size}
 use Rattle.words.proofs.Tags as laws
 use Rattle.words.proofs.word_named.Goals as goal
 
-pub find-found-requires : goal.find-found-requires
-find-found-requires c = c.requires.0
-
 pub returns-in_default : goal.returns-in_default
-returns-in_default c = let all = refuses 18 _ (omega arith) (laws.unknown _ _ _ (sym c.in_default.is ∙ c.find-found.ensures)) in record { result_value = all.0; fact = all.1 }
+returns-in_default c =
+    let all = refuses 18 _ (omega arith) (laws.unknown _ _ _ (sym c.in_default.is ∙ c.find-found.ensures)) in
+    record { result_value = all.0; fact = all.1 }
 
 pub word_in-requires : goal.word_in-requires
 word_in-requires c =
@@ -18,4 +17,6 @@ word_in-requires c =
     (c.requires.1, wide.0, wide.1)
 
 pub returns : goal.returns
-returns c = let all = laws.known _ _ _ _ (sym c.in-Known.is ∙ c.find-found.ensures) _ (c.word_in.ensures.result_value, c.word_in.ensures.fact) in record { result_value = all.0; fact = all.1 }
+returns c =
+    let all = laws.known _ _ _ _ (sym c.in-Known.is ∙ c.find-found.ensures) _ (c.word_in.ensures.result_value, c.word_in.ensures.fact) in
+    record { result_value = all.0; fact = all.1 }

@@ -11,10 +11,9 @@ use Rattle.words.proofs.Names as laws
 use Rattle.words.proofs.formats.find.Goals as goal
 
 pub returns-then-n-gt-LONGEST : goal.returns-then-n-gt-LONGEST
-returns-then-n-gt-LONGEST c = sym (laws.long-unknown _ (omega (arith, (let a = c.args in length-span a.message.now a.start.0 a.n c.requires), c.if-n-gt-LONGEST.true)))
-
-pub join_name-name-requires : goal.join_name-name-requires
-join_name-name-requires c = (c.requires, omega (arith, c.if-n-gt-LONGEST.false))
+returns-then-n-gt-LONGEST c =
+    let a = c.args in
+    sym (laws.long-unknown _ (omega (arith, length-span a.message.now a.start.0 a.n c.requires, c.if-n-gt-LONGEST.true)))
 
 pub loop-i-init : goal.loop-i-init
 unfolding formats format bytes_of joined join_after order_as
@@ -23,8 +22,11 @@ loop-i-init c = (omega arith, record { numbers = refl; counts = refl }, laws.non
 pub returns-then-bytes-i : goal.returns-then-bytes-i
 unfolding order_of order_as
 returns-then-bytes-i c =
+    let a = c.args in
+    let length = length-span a.message.now a.start.0 a.n c.requires in
+    let known = span-bytes a.message.now a.start.0 a.n c.requires (λ i. omega (arith, c.type_inv.message i)) in
     let inv = c.loop-i.invariant in
-    ap Known (laws.tables-at _ _ _ inv.3 c.loop-i.i) ∙ sym (laws.name-found _ _ inv.1 _ _ _ c.loop-i-test.true inv.2 c.if-names-i.true c.if-bytes-i.true _ ((let a = c.args in span-bytes a.message.now a.start.0 a.n c.requires (λ i. omega (arith, c.shared_slice_known-1.given i)))) ((let a = c.args in length-span a.message.now a.start.0 a.n c.requires)) c.join_name-name.ensures)
+    ap Known (laws.tables-at _ _ _ inv.3 c.loop-i.i) ∙ sym (laws.name-found _ _ inv.1 _ _ _ c.loop-i-test.true inv.2 c.if-names-i.true c.if-bytes-i.true _ known length c.join_name-name.ensures)
 
 pub loop-i-preserved-else-bytes-i : goal.loop-i-preserved-else-bytes-i
 loop-i-preserved-else-bytes-i c =
@@ -39,5 +41,8 @@ loop-i-preserved c =
 pub returns : goal.returns
 unfolding order_of
 returns c =
+    let a = c.args in
+    let length = length-span a.message.now a.start.0 a.n c.requires in
+    let known = span-bytes a.message.now a.start.0 a.n c.requires (λ i. omega (arith, c.type_inv.message i)) in
     let all : c.loop-i.i ≡ 10 = omega (arith, c.loop-i.invariant.0, c.loop-i-test.false) in
-    sym (laws.all_passed _ _ (rw all c c.loop-i.invariant.2) _ ((let a = c.args in span-bytes a.message.now a.start.0 a.n c.requires (λ i. omega (arith, c.shared_slice_known-1.given i)))) ((let a = c.args in length-span a.message.now a.start.0 a.n c.requires)) c.join_name-name.ensures)
+    sym (laws.all_passed _ _ (rw all at c.loop-i.invariant.2) _ known length c.join_name-name.ensures)

@@ -1,22 +1,12 @@
 -- `words::join::number` meets its contract, by the laws over the width.
 use mathlib.Core.Path.{◌∙◌}
-use borrow.Author.Tests.{not-true, not-false}
 use mir.Syntax.{w64}
 use mir.ValLaws.{to_z-of_z}
 use Rattle.words.proofs.Numbers as laws
 use Rattle.words.proofs.join.number.Goals as goal
 
-pub overflow_cast-result : goal.overflow_cast-result
-overflow_cast-result c = laws.bits_fit _ _ c.requires
-
-pub returns-then-not-signed : goal.returns-then-not-signed
-returns-then-not-signed c = rw (not-true c.args.signed c.if-not-signed.true-raw) (laws.unsigned_number _ _ c.requires)
-
 pub returns-then-bits-values : goal.returns-then-bits-values
-returns-then-bits-values c = rw (not-false c.args.signed c.if-not-signed.false-raw) (laws.lower-number _ _ c.requires c.if-bits-values.true)
-
-pub overflow_cast-result-2 : goal.overflow_cast-result-2
-overflow_cast-result-2 c = laws.bits_fit _ _ c.requires
+returns-then-bits-values c = rw c.if-not-signed.false (laws.lower-number _ _ c.requires c.if-bits-values.true)
 
 pub overflow_cast-result-3 : goal.overflow_cast-result-3
 overflow_cast-result-3 c =
@@ -27,4 +17,6 @@ pub overflow_sub-result : goal.overflow_sub-result
 overflow_sub-result c = rw (laws.upper-number _ _ c.requires c.if-bits-values.false) (laws.number_fits _ _ c.requires)
 
 pub returns : goal.returns
-returns c = rw (not-false c.args.signed c.if-not-signed.false-raw) (to_z-of_z w64 _ (sub-result c) ∙ laws.upper-number _ _ c.requires c.if-bits-values.false)
+returns c =
+    let upper = laws.upper-number _ _ c.requires c.if-bits-values.false in
+    rw c.if-not-signed.false (to_z-of_z w64 _ (rw upper (laws.number_fits _ _ c.requires)) ∙ upper)
