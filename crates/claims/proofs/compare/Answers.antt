@@ -3,4 +3,7 @@ use Rattle.demands.proofs.Demand1.{demand1_compare}
 use Rattle.claims.proofs.compare.Goals as goal
 
 pub returns : goal.returns
-returns c = let promise = (c.compare.ensures.scratch_after, c.compare.ensures.fact) in record { scratch_after = promise.0; compare_touches = demand1_compare _ _ _ _ _ _ _ _ _ _ _ promise.0 promise.1 }
+returns c = record {
+  scratch_after = c.compare.ensures.scratch_after;
+  compare_touches = demand1_compare _ _ _ _ _ _ _ _ _ _ _ c.compare.ensures.scratch_after c.compare.ensures.fact;
+}

@@ -52,4 +52,6 @@ pub shape_of-registers-in-Accepted-b : goal.shape_of-registers-in-Accepted-b
 shape_of-registers-in-Accepted-b c = c.decode-b.auto.registers ∙ c.decode-a.auto.registers
 
 pub returns-in-Accepted-b : goal.returns-in-Accepted-b
-returns-in-Accepted-b c = let promise = (c.compare.ensures.scratch_after, c.compare.ensures.fact) in let all = both-accepted _ _ _ _ _ _ _ c.decode-a.ensures _ _ _ c.in-Accepted.is _ _ c.decode-b.ensures _ _ _ c.in-Accepted-b.is _ _ promise.0 promise.1 _ c.verdict_of.ensures in record { value = all.0; scratch_after = all.1 }
+returns-in-Accepted-b c =
+    let all = both-accepted _ _ _ _ _ _ _ c.decode-a.ensures _ _ _ c.in-Accepted.is _ _ c.decode-b.ensures _ _ _ c.in-Accepted-b.is _ _ c.compare.ensures.scratch_after c.compare.ensures.fact _ c.verdict_of.ensures in
+    record { value = all.0; scratch_after = all.1 }

@@ -4,4 +4,6 @@ use Rattle.demands.proofs.Demand2.{demand2}
 use Rattle.claims.proofs.decode.Goals as goal
 
 pub returns : goal.returns
-returns c = let promise = c.decode.ensures in let all = (promise, (demand1 _ _ _ _ promise, demand2 _ _ _ _ promise)) in record { registers_after = all.0; decode_touches = all.1.0; decode_means = all.1.1 }
+returns c =
+    let promise = c.decode.ensures in
+    record { registers_after = promise; decode_touches = demand1 _ _ _ _ promise; decode_means = demand2 _ _ _ _ promise }
