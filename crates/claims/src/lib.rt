@@ -25,7 +25,7 @@ pub fn decode(
     marks: &mut [u32],
     registers: &mut [u32],
 ) -> Decoded
-    ensures registers_after { decoded_as result (tables rows.new stack.new marks.new registers.new) ≡ decode_answer message.now (tables rows.old stack.old marks.old registers.old) }
+    ensures answer { decoded_as result (tables rows.new stack.new marks.new registers.new) ≡ decode_answer message.now (tables rows.old stack.old marks.old registers.old) }
     ensures decode_touches { DecodeTouches (tables rows.old stack.old marks.old registers.old) result (tables rows.new stack.new marks.new registers.new) }
     ensures decode_means { DecodeMeans message.now (tables rows.old stack.old marks.old registers.old) result (tables rows.new stack.new marks.new registers.new) }
 {
@@ -41,7 +41,7 @@ pub fn write(
     scratch: &mut [u32],
     output: &mut [u8],
 ) -> Written
-    ensures output_after { written_as result scratch.new output.new ≡ write_answer message.now rows.now used root.0 scratch.old output.old }
+    ensures answer { written_as result scratch.new output.new ≡ write_answer message.now rows.now used root.0 scratch.old output.old }
     ensures write_touches { WriteTouches scratch.old output.old result scratch.new output.new }
 {
     text::write(message, rows, used, root, scratch, output)
@@ -61,9 +61,9 @@ pub fn round_trip(
     marks: &mut [u32],
     registers: &mut [u32],
 ) -> RoundTrip
-    ensures registers_after { trip_as output.new result (tables back.new stack.new marks.new registers.new) ≡ trip_says message.now rows.now used root.0 scratch.old output.old (tables back.old stack.old marks.old registers.old) }
-    ensures registers_after_2 { buffers scratch.new output.new (tables back.new stack.new marks.new registers.new) ≡ trip_leaves message.now rows.now used root.0 scratch.old output.old (tables back.old stack.old marks.old registers.old) }
-    ensures by_index { (number : ℕ) (place : Offset) → result ≡ RoundTrip.NotRead number place → T (is_limit number) }
+    ensures answer { trip_as output.new result (tables back.new stack.new marks.new registers.new) ≡ trip_says message.now rows.now used root.0 scratch.old output.old (tables back.old stack.old marks.old registers.old) }
+    ensures buffers_after { buffers scratch.new output.new (tables back.new stack.new marks.new registers.new) ≡ trip_leaves message.now rows.now used root.0 scratch.old output.old (tables back.old stack.old marks.old registers.old) }
+    ensures limits_only { (number : ℕ) (place : Offset) → result ≡ RoundTrip.NotRead number place → T (is_limit number) }
 {
     let w = text::write(message, rows, used, root, scratch, output);
     match w {
@@ -84,7 +84,7 @@ pub fn message_word(
     k: u64,
 ) -> MessageWord
     ensures value { result ≡ word_says (machine_says message.now (tables rows.old stack.old marks.old registers.old)) k }
-    ensures registers_after { tables rows.new stack.new marks.new registers.new ≡ (decode_answer message.now (tables rows.old stack.old marks.old registers.old)).tables }
+    ensures tables_after { tables rows.new stack.new marks.new registers.new ≡ (decode_answer message.now (tables rows.old stack.old marks.old registers.old)).tables }
 {
     let d = decoder::decode(message, rows, stack, marks, registers);
     match d {
@@ -107,7 +107,7 @@ pub fn compare(
     root_b: Row,
     scratch: &mut [u32],
 ) -> Compared
-    ensures scratch_after { compared_as result scratch.new ≡ compare_answer message_a.now rows_a.now used_a root_a.0 message_b.now rows_b.now used_b root_b.0 scratch.old }
+    ensures answer { compared_as result scratch.new ≡ compare_answer message_a.now rows_a.now used_a root_a.0 message_b.now rows_b.now used_b root_b.0 scratch.old }
     ensures compare_touches { CompareTouches scratch.old result scratch.new }
 {
     comparison::compare(
@@ -127,7 +127,7 @@ pub fn compare_messages(
     scratch: &mut [u32],
 ) -> MessagesCompared
     ensures value { result ≡ comparison_says (machine_says message_a.now (tables rows_a.old stack.old marks.old registers.old)) (machine_says message_b.now (tables rows_b.old stack.old marks.old registers.old)) (length scratch.old) }
-    ensures scratch_after { comparison_buffers rows_a.new (tables rows_b.new stack.new marks.new registers.new) scratch.new ≡ comparison_leaves message_a.now rows_a.old message_b.now (tables rows_b.old stack.old marks.old registers.old) scratch.old }
+    ensures buffers_after { comparison_buffers rows_a.new (tables rows_b.new stack.new marks.new registers.new) scratch.new ≡ comparison_leaves message_a.now rows_a.old message_b.now (tables rows_b.old stack.old marks.old registers.old) scratch.old }
 {
     let a = decoder::decode(message_a, rows_a, stack, marks, registers);
     match a {

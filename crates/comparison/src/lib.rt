@@ -45,8 +45,8 @@ fn same_roots(
     root_b: Row,
     joint: &mut [u32],
 ) -> bool
-    requires message_a_len_bound { (length message_a.now ≤ message_bound) × (length message_b.now ≤ message_bound) × (used_a + used_b ≡ length joint.old) }
-    requires t { T (sound_table message_a.now rows_a.now used_a root_a.0) × T (sound_table message_b.now rows_b.now used_b root_b.0) }
+    requires bounds { (length message_a.now ≤ message_bound) × (length message_b.now ≤ message_bound) × (used_a + used_b ≡ length joint.old) }
+    requires sound { T (sound_table message_a.now rows_a.now used_a root_a.0) × T (sound_table message_b.now rows_b.now used_b root_b.0) }
     ensures { result ≡ same_term (term_in (side message_a.now rows_a.now used_a) root_a.0) (term_in (side message_b.now rows_b.now used_b) root_b.0) }
 {
     classes::number_classes(message_a, rows_a, used_a, message_b, rows_b, used_b, joint);
@@ -66,8 +66,8 @@ fn compare_tables(
     scratch: &mut [u32],
 ) -> Compared
     requires { (length message_a.now ≤ message_bound) × (length message_b.now ≤ message_bound) × (used_a + used_b ≤ length scratch.old) }
-    ensures scratch_value { compared_as result (zeroed scratch.old) ≡ compare_answer message_a.now rows_a.now used_a root_a.0 message_b.now rows_b.now used_b root_b.0 scratch.old }
-    ensures fact { result ≡ Compared.Refused 0 → ⊥ }
+    ensures answer { compared_as result (zeroed scratch.old) ≡ compare_answer message_a.now rows_a.now used_a root_a.0 message_b.now rows_b.now used_b root_b.0 scratch.old }
+    ensures never_0 { result ≡ Compared.Refused 0 → ⊥ }
 {
     if !sound::sound_table(message_a, rows_a, used_a, root_a) {
         return Compared::Refused(refusal::UNSOUND);
@@ -105,8 +105,8 @@ pub fn compare(
     root_b: Row,
     scratch: &mut [u32],
 ) -> Compared
-    ensures scratch_after { compared_as result scratch.new ≡ compare_answer message_a.now rows_a.now used_a root_a.0 message_b.now rows_b.now used_b root_b.0 scratch.old }
-    ensures fact { result ≡ Compared.Refused 0 → ⊥ }
+    ensures answer { compared_as result scratch.new ≡ compare_answer message_a.now rows_a.now used_a root_a.0 message_b.now rows_b.now used_b root_b.0 scratch.old }
+    ensures never_0 { result ≡ Compared.Refused 0 → ⊥ }
 {
     if bound::MESSAGE_BYTES < message_a.len() {
         return Compared::Refused(refusal::OVER_BOUND);

@@ -21,7 +21,7 @@ fn first_same(
     y: RowWords,
 ) -> JointRow
     requires count_in_bounds { (base_x + count ≤ length classes.now) × (length classes.now < 2 ^ 32) }
-    requires by_index { ((i : ℕ) → i < count → SpanInside (placed message_x.now base_x (row_in rows_x.now i))) × SpanInside (placed message_y.now base_y (row_of y)) }
+    requires spans_inside { ((i : ℕ) → i < count → SpanInside (placed message_x.now base_x (row_in rows_x.now i))) × SpanInside (placed message_y.now base_y (row_of y)) }
     ensures { result.0 ≡ base_x + first_below (leads classes.now (λ i. placed message_x.now base_x (row_in rows_x.now i)) (placed message_y.now base_y (row_of y))) count }
 {
     let mut i = 0;
@@ -51,7 +51,7 @@ pub(crate) fn class_of(
     n: JointRow,
 ) -> JointRow
     requires sound { Sound (side message_a.now rows_a.now used_a) × Sound (side message_b.now rows_b.now used_b) }
-    requires used_b_value { (used_a + used_b ≡ length classes.now) × (n.0 < used_a + used_b) }
+    requires row_among { (used_a + used_b ≡ length classes.now) × (n.0 < used_a + used_b) }
     requires classes_value { take n.0 classes.now ≡ class_list (joint_term (side message_a.now rows_a.now used_a) (side message_b.now rows_b.now used_b)) n.0 }
     ensures { result.0 ≡ row_class (joint_term (side message_a.now rows_a.now used_a) (side message_b.now rows_b.now used_b)) n.0 }
 {

@@ -18,8 +18,8 @@ pub(crate) fn run(
     marks: &mut [u32],
     registers: &mut [u32],
 ) -> Decoded
-    requires message_len_bound { (length message.now ≤ message_bound) × (register_words ≤ length registers.old) }
-    requires registers_value { registers.old ≡ zeroed registers.old }
+    requires bounds { (length message.now ≤ message_bound) × (register_words ≤ length registers.old) }
+    requires registers_empty { registers.old ≡ zeroed registers.old }
     ensures { left_as result rows.new ≡ left_by rows.old (M.run row_values (limits_of (tables rows.old stack.old marks.old registers.old)) message.now) }
 {
     let classes = class::classes();

@@ -78,8 +78,8 @@ pub fn put_quoted(
     start: Offset,
     n: usize,
 ) -> usize
-    requires n_in_bounds { start.0 + n ≤ length message.now }
-    requires n_in_bounds_2 { at + length (between quote (span_of message.now start.0 n) []) ≤ length output.old }
+    requires span_inside { start.0 + n ≤ length message.now }
+    requires room { at + length (between quote (span_of message.now start.0 n) []) ≤ length output.old }
     ensures output_after { output.new ≡ sets output.old at (between quote (span_of message.now start.0 n) []) }
     ensures value { result ≡ at + length (between quote (span_of message.now start.0 n) []) }
 {
@@ -114,8 +114,8 @@ fn put_count(output: &mut [u8], at: usize, k: u32, n: usize) -> usize
 
 // Stores an atom, a string or a binary from `at` on, and answers the place after it: one copy of the code for all three.
 fn put_bytes(message: &[u8], output: &mut [u8], at: usize, k: u32, start: Offset, n: usize) -> usize
-    requires n_in_bounds { start.0 + n ≤ length message.now }
-    requires n_in_bounds_2 { at + length (span_bytes message.now k start.0 n) ≤ length output.old }
+    requires span_inside { start.0 + n ≤ length message.now }
+    requires room { at + length (span_bytes message.now k start.0 n) ≤ length output.old }
     ensures output_after { output.new ≡ sets output.old at (span_bytes message.now k start.0 n) }
     ensures value { result ≡ at + length (span_bytes message.now k start.0 n) }
 {
@@ -156,7 +156,7 @@ fn put_braces(output: &mut [u8], at: usize) -> usize
 // Stores a leaf's text from `at` on, and answers the place after it.
 pub fn put(message: &[u8], output: &mut [u8], at: usize, words: RowWords) -> usize
     requires inside { Inside message.now (row_of words) }
-    requires words_in_bounds { at + length (leaf_bytes message.now (row_of words)) ≤ length output.old }
+    requires room { at + length (leaf_bytes message.now (row_of words)) ≤ length output.old }
     ensures output_after { output.new ≡ sets output.old at (leaf_bytes message.now (row_of words)) }
     ensures value { result ≡ at + length (leaf_bytes message.now (row_of words)) }
 {

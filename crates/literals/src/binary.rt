@@ -79,7 +79,7 @@ pub fn binary_item(
     requires at_in_bounds { (s.at.0 < length message.now) × (length message.now ≤ message_bound) }
     requires marks_in_bounds { s.marks ≤ length marks.now }
     requires depth_in_bounds { s.depth.0 ≤ length stack.old }
-    requires by_index { (i : ℕ) → i < s.depth.0 → get_or stack.old i 0 < row_room rows.old }
+    requires values_among { (i : ℕ) → i < s.depth.0 → get_or stack.old i 0 < row_room rows.old }
     ensures { (registers : List ℕ) → Ready (tables rows.old stack.old marks.now registers) s → turn result (tables rows.new stack.new marks.now registers) ≡ taken (tables rows.old stack.old marks.now registers) s (drop (s.at.0 + 1) message.now) tilde_item }
 {
     let at = s.at;

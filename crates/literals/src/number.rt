@@ -38,7 +38,7 @@ fn begun_by(b: u8) -> Begun
 // An integer, whose first byte is b.
 pub fn integer_item(message: &[u8], rows: &mut [u32], stack: &mut [u32], s: State, b: u8) -> Answer
     requires at_in_bounds { (s.at.0 < length message.now) × (length message.now ≤ message_bound) }
-    requires le_b { (b ≡ 45 → ⊥) → 48 ≤ b }
+    requires minus_or_digit { (b ≡ 45 → ⊥) → 48 ≤ b }
     ensures { (marks registers : List ℕ) → Ready (tables rows.old stack.old marks registers) s → turn result (tables rows.new stack.new marks registers) ≡ taken (tables rows.old stack.old marks registers) s (drop (s.at.0 + 1) message.now) (begun_item (begun_by b) (drop (s.at.0 + 1) message.now)) }
 {
     let at = s.at;

@@ -26,7 +26,7 @@ pub fn step(
 ) -> Answer
     requires at_in_bounds { (s.at.0 < length message.now) × (length message.now ≤ message_bound) }
     requires ready { Ready (tables rows.old stack.old marks.old registers.old) s }
-    requires b_value { get_or classes.now b 0 ≡ class_code (class_of b) }
+    requires class_known { get_or classes.now b 0 ≡ class_code (class_of b) }
     ensures { turn result (tables rows.new stack.new marks.new registers.new) ≡ taken (tables rows.old stack.old marks.old registers.old) s (drop (s.at.0 + 1) message.now) (lex b (drop (s.at.0 + 1) message.now)) }
 {
     let at = s.at;

@@ -12,7 +12,7 @@ use measure::length;
 // Whether the plain text of a sound table's root has room. The stack has a word for each row used, which holds the length of the row's text. A text
 // of 4 GiB or more is counted where there is such room.
 pub(crate) fn fits(message: &[u8], rows: &[u32], root: Row, stack: &mut [u32], room: usize) -> bool
-    requires t { T (sound_table message.now rows.now (length stack.old) root.0) }
+    requires sound { T (sound_table message.now rows.now (length stack.old) root.0) }
     requires measured { Measured message.now (rows_of (length stack.old) rows.now) stack.old (length stack.old) }
     ensures { result ≡ leb (length (plain (term_at message.now (rows_of (length stack.old) rows.now) root.0))) room }
 {

@@ -16,8 +16,8 @@ pub(crate) fn store_text(
     stack: &mut [u32],
     output: &mut [u8],
 ) -> usize
-    requires t { T (sound_table message.now rows.now (length stack.old) root.0) }
-    requires root_in_bounds { length (plain (term_at message.now (rows_of (length stack.old) rows.now) root.0)) ≤ length output.old }
+    requires sound { T (sound_table message.now rows.now (length stack.old) root.0) }
+    requires room { length (plain (term_at message.now (rows_of (length stack.old) rows.now) root.0)) ≤ length output.old }
     ensures output_after { output.new ≡ plain (term_at message.now (rows_of (length stack.old) rows.now) root.0) ++ drop result output.old }
     ensures value { result ≡ length (plain (term_at message.now (rows_of (length stack.old) rows.now) root.0)) }
 {

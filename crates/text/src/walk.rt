@@ -80,7 +80,7 @@ pub(crate) fn put_first(
     requires room { Room message.now rows.now (length stack.old) (coming message.now rows.now (length stack.old) row.0 (last_first stack.old depth)) output.old at }
     ensures falling { Falling message.now rows.now (length stack.old) (last_first stack.new result.depth) }
     ensures partly { Partly output.old at (coming message.now rows.now (length stack.old) row.0 (last_first stack.old depth)) output.new result.at (pending message.now rows.now (length stack.old) (last_first stack.new result.depth)) }
-    ensures at_lt_at { at < result.at }
+    ensures rises { at < result.at }
 {
     let mut n = row;
     let mut words = table::read_row(rows, n);
@@ -147,7 +147,7 @@ fn put_item(
     requires top_in_bounds { top < length stack.old }
     requires falling { Falling message.now rows.now (length stack.old) (get_or stack.old top 0 ∷ last_first stack.old top) }
     requires room { Room message.now rows.now (length stack.old) (pending message.now rows.now (length stack.old) (get_or stack.old top 0 ∷ last_first stack.old top)) output.old at }
-    requires top_value { ((row_in rows.now (frame_row (get_or stack.old top 0))).kind ≡ cons_kind) × ((row_in rows.now (frame_row (get_or stack.old top 0))).first ≡ item.0) }
+    requires cell { ((row_in rows.now (frame_row (get_or stack.old top 0))).kind ≡ cons_kind) × ((row_in rows.now (frame_row (get_or stack.old top 0))).first ≡ item.0) }
     ensures ready_after { ReadyAfter message.now rows.now (length stack.old) result stack.new top }
     ensures partly { Partly output.old at (pending message.now rows.now (length stack.old) (get_or stack.old top 0 ∷ last_first stack.old top)) output.new (place_after message.now rows.now (length stack.old) result) (coming_after message.now rows.now (length stack.old) result stack.new top) }
 {

@@ -27,8 +27,8 @@ pub enum Word {
 // Word k of the n bytes from `start` on.
 fn word_in(message: &[u8], start: Offset, n: usize, layout: Layout, k: u64) -> Word
     requires { (start.0 + n ≤ length message.now) × (0 < layout.width) × (8 * layout.width < 64) }
-    ensures result_value { word_as result ≡ word_in (format_of layout) (span_of message.now start.0 n) k }
-    ensures fact { result ≡ Word.Refused 0 → ⊥ }
+    ensures answer { word_as result ≡ word_in (format_of layout) (span_of message.now start.0 n) k }
+    ensures never_0 { result ≡ Word.Refused 0 → ⊥ }
 {
     let width = layout.width;
     let order = layout.order;
@@ -46,8 +46,8 @@ fn word_in(message: &[u8], start: Offset, n: usize, layout: Layout, k: u64) -> W
 // Word k of a binary under a tag.
 fn word_named(message: &[u8], tag: RowWords, block: RowWords, k: u64) -> Word
     requires { (tag.first + tag.second ≤ length message.now) × (block.first + block.second ≤ length message.now) }
-    ensures result_value { word_as result ≡ word_named (format_in formats (span_of message.now tag.first tag.second)) (binary (span_of message.now block.first block.second)) k }
-    ensures fact { result ≡ Word.Refused 0 → ⊥ }
+    ensures answer { word_as result ≡ word_named (format_in formats (span_of message.now tag.first tag.second)) (binary (span_of message.now block.first block.second)) k }
+    ensures never_0 { result ≡ Word.Refused 0 → ⊥ }
 {
     let found = formats::find(message, Offset(tag.first as usize), tag.second as usize);
     let Found::Known(layout) = found else {
@@ -65,8 +65,8 @@ fn word_named(message: &[u8], tag: RowWords, block: RowWords, k: u64) -> Word
 // Word k of a row and the row that it wraps, which have to be a tag and a binary.
 fn word_of_rows(message: &[u8], tag: RowWords, block: RowWords, k: u64) -> Word
     requires { tag.kind ≡ tag_kind → (tag.first + tag.second ≤ length message.now) × (block.kind ≡ binary_kind → block.first + block.second ≤ length message.now) }
-    ensures result_value { word_as result ≡ word_of_rows message.now (row_of tag) (row_of block) k }
-    ensures fact { result ≡ Word.Refused 0 → ⊥ }
+    ensures answer { word_as result ≡ word_of_rows message.now (row_of tag) (row_of block) k }
+    ensures never_0 { result ≡ Word.Refused 0 → ⊥ }
 {
     if tag.kind != kind::TAG {
         return Word::Refused(refusal::NO_BLOCK);
@@ -80,8 +80,8 @@ fn word_of_rows(message: &[u8], tag: RowWords, block: RowWords, k: u64) -> Word
 // Reads word k, from 0, of the sensor block at a row, which stands in the root's place. Nothing is lent for writing. No refusal has the number 0, which is that
 // of an answer.
 pub fn read_word(message: &[u8], rows: &[u32], used: u32, row: Row, k: u64) -> Word
-    ensures result_value { word_as result ≡ word_answer message.now rows.now used row.0 k }
-    ensures fact { result ≡ Word.Refused 0 → ⊥ }
+    ensures answer { word_as result ≡ word_answer message.now rows.now used row.0 k }
+    ensures never_0 { result ≡ Word.Refused 0 → ⊥ }
 {
     if bound::MESSAGE_BYTES < message.len() {
         return Word::Refused(refusal::OVER_BOUND);

@@ -4,6 +4,6 @@ use Rattle.claims.proofs.compare.Goals as goal
 
 pub returns : goal.returns
 returns c = record {
-  scratch_after = c.compare.ensures.scratch_after;
-  compare_touches = demand1_compare _ _ _ _ _ _ _ _ _ _ _ c.compare.ensures.scratch_after c.compare.ensures.fact;
+  answer = c.compare.ensures.answer;
+  compare_touches = demand1_compare _ _ _ _ _ _ _ _ _ _ _ c.compare.ensures.answer c.compare.ensures.never_0;
 }

@@ -16,7 +16,9 @@ pub shape_of-registers-in-Refused : goal.shape_of-registers-in-Refused
 shape_of-registers-in-Refused c = c.decode-a.auto.registers
 
 pub returns-in-Refused : goal.returns-in-Refused
-returns-in-Refused c = let all = first-refused _ _ _ _ _ _ _ c.decode-a.ensures _ _ c.in-Refused.is in record { value = all.0; scratch_after = all.1 }
+returns-in-Refused c =
+    let all = first-refused _ _ _ _ _ _ _ c.decode-a.ensures _ _ c.in-Refused.is in
+    record { value = all.0; buffers_after = all.1 }
 
 pub shape_of-rows_a-in-Refused-b : goal.shape_of-rows_a-in-Refused-b
 shape_of-rows_a-in-Refused-b c = c.decode-a.auto.rows
@@ -34,7 +36,9 @@ pub shape_of-registers-in-Refused-b : goal.shape_of-registers-in-Refused-b
 shape_of-registers-in-Refused-b c = c.decode-b.auto.registers ∙ c.decode-a.auto.registers
 
 pub returns-in-Refused-b : goal.returns-in-Refused-b
-returns-in-Refused-b c = let all = second-refused _ _ _ _ _ _ _ c.decode-a.ensures _ _ _ c.in-Accepted.is _ _ c.decode-b.ensures _ _ c.in-Refused-b.is in record { value = all.0; scratch_after = all.1 }
+returns-in-Refused-b c =
+    let all = second-refused _ _ _ _ _ _ _ c.decode-a.ensures _ _ _ c.in-Accepted.is _ _ c.decode-b.ensures _ _ c.in-Refused-b.is in
+    record { value = all.0; buffers_after = all.1 }
 
 pub shape_of-rows_a-in-Accepted-b : goal.shape_of-rows_a-in-Accepted-b
 shape_of-rows_a-in-Accepted-b c = c.decode-a.auto.rows
@@ -53,5 +57,5 @@ shape_of-registers-in-Accepted-b c = c.decode-b.auto.registers ∙ c.decode-a.au
 
 pub returns-in-Accepted-b : goal.returns-in-Accepted-b
 returns-in-Accepted-b c =
-    let all = both-accepted _ _ _ _ _ _ _ c.decode-a.ensures _ _ _ c.in-Accepted.is _ _ c.decode-b.ensures _ _ _ c.in-Accepted-b.is _ _ c.compare.ensures.scratch_after c.compare.ensures.fact _ c.verdict_of.ensures in
-    record { value = all.0; scratch_after = all.1 }
+    let all = both-accepted _ _ _ _ _ _ _ c.decode-a.ensures _ _ _ c.in-Accepted.is _ _ c.decode-b.ensures _ _ _ c.in-Accepted-b.is _ _ c.compare.ensures.answer c.compare.ensures.never_0 _ c.verdict_of.ensures in
+    record { value = all.0; buffers_after = all.1 }

@@ -6,4 +6,4 @@ use Rattle.claims.proofs.decode.Goals as goal
 pub returns : goal.returns
 returns c =
     let promise = c.decode.ensures in
-    record { registers_after = promise; decode_touches = demand1 _ _ _ _ promise; decode_means = demand2 _ _ _ _ promise }
+    record { answer = promise; decode_touches = demand1 _ _ _ _ promise; decode_means = demand2 _ _ _ _ promise }

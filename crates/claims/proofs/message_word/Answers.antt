@@ -3,7 +3,11 @@ use Rattle.demands.proofs.SensorWords.{not-decoded, decoded}
 use Rattle.claims.proofs.message_word.Goals as goal
 
 pub returns-in-Refused : goal.returns-in-Refused
-returns-in-Refused c = let all = not-decoded _ _ _ _ _ c.decode-d.ensures _ _ c.in-Refused.is in record { value = all.0; registers_after = all.1 }
+returns-in-Refused c =
+    let all = not-decoded _ _ _ _ _ c.decode-d.ensures _ _ c.in-Refused.is in
+    record { value = all.0; tables_after = all.1 }
 
 pub returns-in-Accepted : goal.returns-in-Accepted
-returns-in-Accepted c = let all = decoded _ _ _ _ _ c.decode-d.ensures _ _ _ c.in-Accepted.is _ c.read_word.ensures.result_value c.read_word.ensures.fact _ c.word_answer.ensures in record { value = all.0; registers_after = all.1 }
+returns-in-Accepted c =
+    let all = decoded _ _ _ _ _ c.decode-d.ensures _ _ _ c.in-Accepted.is _ c.read_word.ensures.answer c.read_word.ensures.never_0 _ c.word_answer.ensures in
+    record { value = all.0; tables_after = all.1 }

@@ -8,10 +8,14 @@ pub slice_bounds-decode-end : goal.slice_bounds-decode-end
 slice_bounds-decode-end c = (bytes_fit _ _ _ _ _ _ _ _ _ c.write-w.ensures _ c.in-Bytes.is)
 
 pub slice_bounds-decode-end-in-Bytes : goal.slice_bounds-decode-end-in-Bytes
-slice_bounds-decode-end-in-Bytes c = sym (length-take-le _ _ ((bytes_fit _ _ _ _ _ _ _ _ _ c.write-w.ensures _ c.in-Bytes.is)))
+slice_bounds-decode-end-in-Bytes c = sym (length-take-le _ _ (bytes_fit _ _ _ _ _ _ _ _ _ c.write-w.ensures _ c.in-Bytes.is))
 
 pub returns-in-Refused : goal.returns-in-Refused
-returns-in-Refused c = let all = trip_refused _ _ _ _ _ _ _ _ _ _ _ c.write-w.ensures _ c.in-Refused.is refl in record { registers_after = all.0; registers_after_2 = all.1.0; by_index = all.1.1 }
+returns-in-Refused c =
+    let all = trip_refused _ _ _ _ _ _ _ _ _ _ _ c.write-w.ensures _ c.in-Refused.is refl in
+    record { answer = all.0; buffers_after = all.1.0; limits_only = all.1.1 }
 
 pub returns-in-Bytes : goal.returns-in-Bytes
-returns-in-Bytes c = let all = trip_read _ _ _ _ _ _ _ _ _ _ _ c.write-w.ensures _ c.in-Bytes.is _ c.decode.ensures _ c.read_answer.ensures in record { registers_after = all.0; registers_after_2 = all.1.0; by_index = all.1.1 }
+returns-in-Bytes c =
+    let all = trip_read _ _ _ _ _ _ _ _ _ _ _ c.write-w.ensures _ c.in-Bytes.is _ c.decode.ensures _ c.read_answer.ensures in
+    record { answer = all.0; buffers_after = all.1.0; limits_only = all.1.1 }

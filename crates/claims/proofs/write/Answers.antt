@@ -3,4 +3,4 @@ use Rattle.demands.proofs.Demand1.{demand1_write}
 use Rattle.claims.proofs.write.Goals as goal
 
 pub returns : goal.returns
-returns c = let promise = c.write.ensures in record { output_after = promise; write_touches = demand1_write _ _ _ _ _ _ _ _ _ promise }
+returns c = let promise = c.write.ensures in record { answer = promise; write_touches = demand1_write _ _ _ _ _ _ _ _ _ promise }

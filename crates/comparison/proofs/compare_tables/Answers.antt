@@ -9,14 +9,14 @@ pub returns-then-not-sound_table : goal.returns-then-not-sound_table
 returns-then-not-sound_table c =
     let p = c.requires in
     let all = unsound-first _ _ _ _ _ _ _ _ _ p.0 p.1 p.2 (sym c.sound_table.ensures ∙ c.if-not-sound_table.true) in
-    record { scratch_value = all.0; fact = all.1 }
+    record { answer = all.0; never_0 = all.1 }
 
 pub returns-then-not-sound_table-2 : goal.returns-then-not-sound_table-2
 returns-then-not-sound_table-2 c =
     let p = c.requires in
     let sound_a = sym c.sound_table.ensures ∙ c.if-not-sound_table.false in
     let all = unsound-second _ _ _ _ _ _ _ _ _ p.0 p.1 p.2 sound_a (sym c.sound_table-2.ensures ∙ c.if-not-sound_table-2.true) in
-    record { scratch_value = all.0; fact = all.1 }
+    record { answer = all.0; never_0 = all.1 }
 
 pub slice_bounds-same_roots-end-2 : goal.slice_bounds-same_roots-end-2
 slice_bounds-same_roots-end-2 c = sym (length-take-le _ _ (rw c.rows_of_both-n.ensures c.requires.2))
@@ -27,8 +27,8 @@ same_roots-requires c =
     let sound_a = sym c.sound_table.ensures ∙ c.if-not-sound_table.false in
     let sound_b = sym c.sound_table-2.ensures ∙ c.if-not-sound_table-2.false in
     record {
-      message_a_len_bound = (p.0, p.1, sym (length-take-le _ _ (rw c.rows_of_both-n.ensures p.2) ∙ c.rows_of_both-n.ensures));
-      t = (subst T (sym sound_a) tt, subst T (sym sound_b) tt);
+      bounds = (p.0, p.1, sym (length-take-le _ _ (rw c.rows_of_both-n.ensures p.2) ∙ c.rows_of_both-n.ensures));
+      sound = (subst T (sym sound_a) tt, subst T (sym sound_b) tt);
     }
 
 pub returns-then-same_roots : goal.returns-then-same_roots
@@ -37,7 +37,7 @@ returns-then-same_roots c =
     let sound_a = sym c.sound_table.ensures ∙ c.if-not-sound_table.false in
     let sound_b = sym c.sound_table-2.ensures ∙ c.if-not-sound_table-2.false in
     let all = equal _ _ _ _ _ _ _ _ _ p.0 p.1 p.2 sound_a sound_b (sym c.same_roots.ensures ∙ c.if-same_roots.true) in
-    record { scratch_value = all.0; fact = all.1 }
+    record { answer = all.0; never_0 = all.1 }
 
 pub returns : goal.returns
 returns c =
@@ -45,4 +45,4 @@ returns c =
     let sound_a = sym c.sound_table.ensures ∙ c.if-not-sound_table.false in
     let sound_b = sym c.sound_table-2.ensures ∙ c.if-not-sound_table-2.false in
     let all = different _ _ _ _ _ _ _ _ _ p.0 p.1 p.2 sound_a sound_b (sym c.same_roots.ensures ∙ c.if-same_roots.false) in
-    record { scratch_value = all.0; fact = all.1 }
+    record { answer = all.0; never_0 = all.1 }

@@ -11,7 +11,7 @@ pub returns-then-registers-lt-REGISTER_WORDS : goal.returns-then-registers-lt-RE
 returns-then-registers-lt-REGISTER_WORDS c = short _ _ c.if-message-gt-MESSAGE_BYTES.false c.if-registers-lt-REGISTER_WORDS.true
 
 pub run-answer-requires : goal.run-answer-requires
-run-answer-requires c = record { message_len_bound = (c.if-message-gt-MESSAGE_BYTES.false, omega arith); registers_value = is-zeroed _ _ c.clear.ensures }
+run-answer-requires c = record { bounds = (c.if-message-gt-MESSAGE_BYTES.false, omega arith); registers_empty = is-zeroed _ _ c.clear.ensures }
 
 pub returns : goal.returns
 returns c = decoded _ _ _ _ _ _ c.clear.ensures c.if-message-gt-MESSAGE_BYTES.false c.if-registers-lt-REGISTER_WORDS.false _ _ (record { rows = sym c.run-answer.auto.rows; stack = sym c.run-answer.auto.stack; marks = sym c.run-answer.auto.marks; registers = sym c.run-answer.auto.registers }) _ c.run-answer.ensures c.settle.ensures

@@ -21,7 +21,7 @@ returns-then-text-next c = sym (laws.run-cut _ _ _ (omega arith) (omega arith) c
 
 pub returns-then-not-may_follow : goal.returns-then-not-may_follow
 returns-then-not-may_follow c =
-    let stray = sym c.may_follow.ensures ∙ not-true _ c.if-not-may_follow.true-raw in
+    let stray = sym c.may_follow.ensures ∙ c.if-not-may_follow.true in
     sym (laws.run-strays _ _ _ (omega arith) (omega arith) c.plain_end_by_blocks-p.ensures c.if-text-p.false c.if-text-p-2.false c.if-text-next.false stray) ∙ c.loop-i.invariant
 
 pub loop-i-smaller : goal.loop-i-smaller
@@ -29,7 +29,7 @@ loop-i-smaller c = omega (arith, not-before _ _ _ _ (omega arith) (omega arith) 
 
 pub loop-i-preserved : goal.loop-i-preserved
 loop-i-preserved c =
-    let follows = sym c.may_follow.ensures ∙ not-false _ c.if-not-may_follow.false-raw in
+    let follows = sym c.may_follow.ensures ∙ c.if-not-may_follow.false in
     sym (laws.run-follows _ _ _ (omega arith) (omega arith) c.plain_end_by_blocks-p.ensures c.if-text-p.false c.if-text-p-2.false c.if-text-next.false follows) ∙ c.loop-i.invariant
 
 pub returns : goal.returns

@@ -11,33 +11,33 @@ loop-i-init c = laws.begins _ _ _
 
 pub returns-then-not-sound_words : goal.returns-then-not-sound_words
 returns-then-not-sound_words c =
-    let unsound = words_fail _ _ _ (sym c.sound_words.ensures ∙ not-true _ c.if-not-sound_words.true-raw) in
+    let unsound = words_fail _ _ _ (sym c.sound_words.ensures ∙ c.if-not-sound_words.true) in
     sym (laws.row_fails _ _ _ (omega arith) _ c.loop-i-test.true _ c.read_row-words.ensures unsound) ∙ c.loop-i.invariant
 
 pub returns-then-not-sound_text : goal.returns-then-not-sound_text
 returns-then-not-sound_text c =
-    let words = sym c.sound_words.ensures ∙ not-false _ c.if-not-sound_words.false-raw in
-    let unsound = text_fails _ _ _ words (sym c.sound_text.ensures ∙ not-true _ c.if-not-sound_text.true-raw) in
+    let words = sym c.sound_words.ensures ∙ c.if-not-sound_words.false in
+    let unsound = text_fails _ _ _ words (sym c.sound_text.ensures ∙ c.if-not-sound_text.true) in
     sym (laws.row_fails _ _ _ (omega arith) _ c.loop-i-test.true _ c.read_row-words.ensures unsound) ∙ c.loop-i.invariant
 
 pub rest_fits-requires : goal.rest_fits-requires
 rest_fits-requires c =
-    let words = sym c.sound_words.ensures ∙ not-false _ c.if-not-sound_words.false-raw in
-    let sound = both-pass _ _ _ words (sym c.sound_text.ensures ∙ not-false _ c.if-not-sound_text.false-raw) in
+    let words = sym c.sound_words.ensures ∙ c.if-not-sound_words.false in
+    let sound = both-pass _ _ _ words (sym c.sound_text.ensures ∙ c.if-not-sound_text.false) in
     (laws.cons-room _ _ _ (omega arith) _ c.loop-i-test.true _ c.read_row-words.ensures sound, laws.field_room _ _ _ (omega arith) _ c.loop-i-test.true _ c.read_row-words.ensures sound)
 
 pub returns-then-not-rest_fits : goal.returns-then-not-rest_fits
 returns-then-not-rest_fits c =
-    let words = sym c.sound_words.ensures ∙ not-false _ c.if-not-sound_words.false-raw in
-    let sound = both-pass _ _ _ words (sym c.sound_text.ensures ∙ not-false _ c.if-not-sound_text.false-raw) in
-    let rest = sym c.rest_fits.ensures ∙ not-true _ c.if-not-rest_fits.true-raw in
+    let words = sym c.sound_words.ensures ∙ c.if-not-sound_words.false in
+    let sound = both-pass _ _ _ words (sym c.sound_text.ensures ∙ c.if-not-sound_text.false) in
+    let rest = sym c.rest_fits.ensures ∙ c.if-not-rest_fits.true in
     sym (laws.rest_fails _ _ _ (omega arith) _ c.loop-i-test.true _ c.read_row-words.ensures sound rest) ∙ c.loop-i.invariant
 
 pub loop-i-preserved : goal.loop-i-preserved
 loop-i-preserved c =
-    let words = sym c.sound_words.ensures ∙ not-false _ c.if-not-sound_words.false-raw in
-    let sound = both-pass _ _ _ words (sym c.sound_text.ensures ∙ not-false _ c.if-not-sound_text.false-raw) in
-    let rest = sym c.rest_fits.ensures ∙ not-false _ c.if-not-rest_fits.false-raw in
+    let words = sym c.sound_words.ensures ∙ c.if-not-sound_words.false in
+    let sound = both-pass _ _ _ words (sym c.sound_text.ensures ∙ c.if-not-sound_text.false) in
+    let rest = sym c.rest_fits.ensures ∙ c.if-not-rest_fits.false in
     sym (laws.passes _ _ _ (omega arith) _ c.loop-i-test.true _ c.read_row-words.ensures sound rest) ∙ c.loop-i.invariant
 
 pub returns : goal.returns

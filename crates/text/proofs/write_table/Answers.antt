@@ -9,20 +9,20 @@ use Rattle.text.proofs.write_table.Goals as goal
 pub returns-then-not-count_fits : goal.returns-then-not-count_fits
 returns-then-not-count_fits c =
     let p = c.requires in
-    count_fails _ _ _ _ _ _ p.0 p.1 (sym c.count_fits.ensures ∙ not-true _ c.if-not-count_fits.true-raw)
+    count_fails _ _ _ _ _ _ p.0 p.1 (sym c.count_fits.ensures ∙ c.if-not-count_fits.true)
 
 pub returns-then-not-root_among : goal.returns-then-not-root_among
 returns-then-not-root_among c =
     let p = c.requires in
-    root_fails _ _ _ _ _ _ p.0 p.1 ((sym c.count_fits.ensures ∙ not-false _ c.if-not-count_fits.false-raw)) (sym c.root_among.ensures ∙ not-true _ c.if-not-root_among.true-raw)
+    root_fails _ _ _ _ _ _ p.0 p.1 (sym c.count_fits.ensures ∙ c.if-not-count_fits.false) (sym c.root_among.ensures ∙ c.if-not-root_among.true)
 
 pub slice_bounds-write_rows-end-2 : goal.slice_bounds-write_rows-end-2
 slice_bounds-write_rows-end-2 c = sym (length-take-le _ _ c.requires.1)
 
 pub write_rows-requires : goal.write_rows-requires
-write_rows-requires c = rw (length-take-le _ _ c.requires.1) (claimed ((sym c.count_fits.ensures ∙ not-false _ c.if-not-count_fits.false-raw)) ((sym c.root_among.ensures ∙ not-false _ c.if-not-root_among.false-raw)))
+write_rows-requires c = rw (length-take-le _ _ c.requires.1) (claimed (sym c.count_fits.ensures ∙ c.if-not-count_fits.false) (sym c.root_among.ensures ∙ c.if-not-root_among.false))
 
 pub returns : goal.returns
 returns c =
     let p = c.requires in
-    by_rows _ _ _ _ _ _ p.0 p.1 ((sym c.count_fits.ensures ∙ not-false _ c.if-not-count_fits.false-raw)) ((sym c.root_among.ensures ∙ not-false _ c.if-not-root_among.false-raw)) _ _ (c.write_rows.ensures _)
+    by_rows _ _ _ _ _ _ p.0 p.1 (sym c.count_fits.ensures ∙ c.if-not-count_fits.false) (sym c.root_among.ensures ∙ c.if-not-root_among.false) _ _ (c.write_rows.ensures _)

@@ -3,4 +3,4 @@ use mathlib.Core.Path.{◌∙◌}
 use Rattle.ubfa.proofs.ubfa_compare.Goals as goal
 
 pub returns : goal.returns
-returns c = c.compared_numbers.ensures _ ∙ c.compare.ensures.scratch_after
+returns c = c.compared_numbers.ensures _ ∙ c.compare.ensures.answer

@@ -9,7 +9,7 @@ use Rattle.words.proofs.word_named.Goals as goal
 pub returns-in_default : goal.returns-in_default
 returns-in_default c =
     let all = refuses 18 _ (omega arith) (laws.unknown _ _ _ (sym c.in_default.is ∙ c.find-found.ensures)) in
-    record { result_value = all.0; fact = all.1 }
+    record { answer = all.0; never_0 = all.1 }
 
 pub word_in-requires : goal.word_in-requires
 word_in-requires c =
@@ -18,5 +18,5 @@ word_in-requires c =
 
 pub returns : goal.returns
 returns c =
-    let all = laws.known _ _ _ _ (sym c.in-Known.is ∙ c.find-found.ensures) _ (c.word_in.ensures.result_value, c.word_in.ensures.fact) in
-    record { result_value = all.0; fact = all.1 }
+    let all = laws.known _ _ _ _ (sym c.in-Known.is ∙ c.find-found.ensures) _ (c.word_in.ensures.answer, c.word_in.ensures.never_0) in
+    record { answer = all.0; never_0 = all.1 }

@@ -20,7 +20,7 @@ pub class_of-found-requires : goal.class_of-found-requires
 class_of-found-requires c =
     record {
       sound = (c.requires.0, c.requires.1);
-      used_b_value = (c.requires.2 ∙ sym c.loop-n.invariant.1.0, c.loop-n-test.true);
+      row_among = (c.requires.2 ∙ sym c.loop-n.invariant.1.0, c.loop-n-test.true);
       classes_value = c.loop-n.invariant.1.1;
     }
 

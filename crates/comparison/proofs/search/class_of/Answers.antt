@@ -13,7 +13,7 @@ first_same-requires c =
     let few-b = few (side c.args.message_b.now c.args.rows_b.now c.args.used_b) c.requires.sound.1 in
     record {
       count_in_bounds = (omega arith, omega arith);
-      by_index = (λ i h. read-inside a ok 0 i (omega arith), tested.read-inside a.message 0 c.load_row-words.ensures (read-inside a ok 0 _ c.if-at-used_a.true));
+      spans_inside = (λ i h. read-inside a ok 0 i (omega arith), tested.read-inside a.message 0 c.load_row-words.ensures (read-inside a ok 0 _ c.if-at-used_a.true));
     }
 
 pub returns-then-at-used_a : goal.returns-then-at-used_a
@@ -30,7 +30,7 @@ first_same-found-requires c =
     let few-b = few b c.requires.sound.1 in
     record {
       count_in_bounds = (omega arith, omega arith);
-      by_index = (λ i h. read-inside a c.requires.sound.0 0 i h, tested.read-inside b.message a.used c.load_row-words-2.ensures (read-inside b c.requires.sound.1 a.used _ (omega arith)));
+      spans_inside = (λ i h. read-inside a c.requires.sound.0 0 i h, tested.read-inside b.message a.used c.load_row-words-2.ensures (read-inside b c.requires.sound.1 a.used _ (omega arith)));
     }
 
 pub returns-then-found-used_a : goal.returns-then-found-used_a
@@ -47,7 +47,7 @@ first_same-requires-2 c =
     let few-b = few b c.requires.sound.1 in
     record {
       count_in_bounds = (omega arith, omega arith);
-      by_index = (λ i h. read-inside b c.requires.sound.1 a.used i (omega arith), tested.read-inside b.message a.used c.load_row-words-2.ensures (read-inside b c.requires.sound.1 a.used _ (omega arith)));
+      spans_inside = (λ i h. read-inside b c.requires.sound.1 a.used i (omega arith), tested.read-inside b.message a.used c.load_row-words-2.ensures (read-inside b c.requires.sound.1 a.used _ (omega arith)));
     }
 
 pub returns : goal.returns

@@ -8,7 +8,7 @@ pub loop-i-init : goal.loop-i-init
 loop-i-init c = (omega arith, λ k l. absurd (omega arith))
 
 pub same_row-requires : goal.same_row-requires
-same_row-requires c = (laws.read-inside c.args.message_x.now c.args.base_x c.load_row-x.ensures (c.requires.by_index.0 _ c.loop-i-test.true), c.requires.by_index.1)
+same_row-requires c = (laws.read-inside c.args.message_x.now c.args.base_x c.load_row-x.ensures (c.requires.spans_inside.0 _ c.loop-i-test.true), c.requires.spans_inside.1)
 
 pub returns-then-same_row : goal.returns-then-same_row
 returns-then-same_row c =

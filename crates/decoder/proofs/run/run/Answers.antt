@@ -6,7 +6,7 @@ use Rattle.decoder.proofs.Loop.{starts, over, byte_here, goes_on, done, stopped}
 use Rattle.decoder.proofs.run.run.Goals as goal
 
 pub loop-classes-init : goal.loop-classes-init
-loop-classes-init c = starts _ _ c.requires.registers_value c.requires.message_len_bound.1
+loop-classes-init c = starts _ _ c.requires.registers_empty c.requires.bounds.1
 
 pub shape_of-rows-then-message-i : goal.shape_of-rows-then-message-i
 shape_of-rows-then-message-i c = sym c.loop-classes.invariant.same.rows
@@ -25,9 +25,9 @@ returns-then-message-i c = over _ _ _ _ c.loop-classes.invariant c.if-message-i.
 
 pub step-a-requires : goal.step-a-requires
 step-a-requires c = record {
-  at_in_bounds = (c.if-message-i.false, c.requires.message_len_bound.0);
+  at_in_bounds = (c.if-message-i.false, c.requires.bounds.0);
   ready = c.loop-classes.invariant.before.ready;
-  b_value = c.classes-classes.ensures _ (omega (arith, c.type_inv.message c.loop-classes.s.at.0));
+  class_known = c.classes-classes.ensures _ (omega (arith, c.type_inv.message c.loop-classes.s.at.0));
 }
 
 pub loop-classes-smaller : goal.loop-classes-smaller
@@ -48,7 +48,7 @@ loop-classes-preserved c =
     (goes_on _ _ _ _ kept _ _ c.loop-classes.invariant (byte_here _ _ c.if-message-i.false) _ (rw c.in-More.is at c.step-a.ensures)).0
 
 pub overflow_add-result : goal.overflow_add-result
-overflow_add-result c = omega (arith, c.if-message-i.false, c.requires.message_len_bound.0)
+overflow_add-result c = omega (arith, c.if-message-i.false, c.requires.bounds.0)
 
 pub shape_of-rows-in-Done : goal.shape_of-rows-in-Done
 shape_of-rows-in-Done c = c.step-a.auto.rows ∙ sym c.loop-classes.invariant.same.rows

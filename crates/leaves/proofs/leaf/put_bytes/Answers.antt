@@ -10,7 +10,9 @@ put_count-quote-requires c =
     omega (arith, length-bytes given.message.now given.k given.start.0 given.n refl)
 
 pub put_quoted-requires : goal.put_quoted-requires
-put_quoted-requires c = let given = c.args in record { n_in_bounds = c.requires.n_in_bounds; n_in_bounds_2 = omega (arith, length-bytes given.message.now given.k given.start.0 given.n c.quote_of.ensures) }
+put_quoted-requires c = let given = c.args in record { span_inside = c.requires.span_inside; room = omega (arith, length-bytes given.message.now given.k given.start.0 given.n c.quote_of.ensures) }
 
 pub returns : goal.returns
-returns c = let all = stored_bytes _ _ _ _ c.quote_of.ensures _ _ (c.put_count-quote.ensures.output_after, c.put_count-quote.ensures.value) (c.put_quoted.ensures.output_after, c.put_quoted.ensures.value) in record { output_after = all.0; value = all.1 }
+returns c =
+    let all = stored_bytes _ _ _ _ c.quote_of.ensures _ _ (c.put_count-quote.ensures.output_after, c.put_count-quote.ensures.value) (c.put_quoted.ensures.output_after, c.put_quoted.ensures.value) in
+    record { output_after = all.0; value = all.1 }

@@ -8,7 +8,11 @@ pub put_natural-requires : goal.put_natural-requires
 put_natural-requires c = room_as (counted _ c.if-k-eq-BINARY.true) _ c.requires
 
 pub returns-then-k-eq-BINARY : goal.returns-then-k-eq-BINARY
-returns-then-k-eq-BINARY c = let all = stored_as (counted _ c.if-k-eq-BINARY.true) _ _ (c.put_natural.ensures.output_after, c.put_natural.ensures.value) in record { output_after = all.0; value = all.1 }
+returns-then-k-eq-BINARY c =
+    let all = stored_as (counted _ c.if-k-eq-BINARY.true) _ _ (c.put_natural.ensures.output_after, c.put_natural.ensures.value) in
+    record { output_after = all.0; value = all.1 }
 
 pub returns : goal.returns
-returns c = let all = stored_as (not-counted _ c.if-k-eq-BINARY.false) _ _ (refl, omega arith) in record { output_after = all.0; value = all.1 }
+returns c =
+    let all = stored_as (not-counted _ c.if-k-eq-BINARY.false) _ _ (refl, omega arith) in
+    record { output_after = all.0; value = all.1 }

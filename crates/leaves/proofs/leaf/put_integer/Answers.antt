@@ -10,7 +10,9 @@ pub put_magnitude-requires : goal.put_magnitude-requires
 put_magnitude-requires c = omega (arith, length-negative c.args.n c.if-negative.true)
 
 pub returns-then-negative : goal.returns-then-negative
-returns-then-negative c = let all = stored-negative _ _ _ c.if-negative.true (c.put_byte-digits.ensures.output_after, c.put_byte-digits.ensures.value) (c.put_magnitude.ensures.output_after, c.put_magnitude.ensures.value) in record { output_after = all.0; value = all.1 }
+returns-then-negative c =
+    let all = stored-negative _ _ _ c.if-negative.true (c.put_byte-digits.ensures.output_after, c.put_byte-digits.ensures.value) (c.put_magnitude.ensures.output_after, c.put_magnitude.ensures.value) in
+    record { output_after = all.0; value = all.1 }
 
 pub put_magnitude-requires-2 : goal.put_magnitude-requires-2
 put_magnitude-requires-2 c = rw c.if-negative.false at c.requires

@@ -10,4 +10,6 @@ pub put_byte-requires : goal.put_byte-requires
 put_byte-requires c = omega (arith, length_magnitude c.args.n)
 
 pub returns : goal.returns
-returns c = let all = stored_magnitude _ _ _ (c.put_natural-end.ensures.output_after, c.put_natural-end.ensures.value) (c.put_byte.ensures.output_after, c.put_byte.ensures.value) in record { output_after = all.0; value = all.1 }
+returns c =
+    let all = stored_magnitude _ _ _ (c.put_natural-end.ensures.output_after, c.put_natural-end.ensures.value) (c.put_byte.ensures.output_after, c.put_byte.ensures.value) in
+    record { output_after = all.0; value = all.1 }

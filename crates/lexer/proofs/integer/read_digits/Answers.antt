@@ -12,19 +12,19 @@ pub loop-i-init : goal.loop-i-init
 loop-i-init c = laws.begins _ _ _ _ c.capped-value.ensures
 
 pub returns-then-not-is_digit : goal.returns-then-not-is_digit
-returns-then-not-is_digit c = laws.stops _ _ c.loop-i.invariant c.loop-i-test.true (sym c.is_digit.ensures ∙ not-true _ c.if-not-is_digit.true-raw)
+returns-then-not-is_digit c = laws.stops _ _ c.loop-i.invariant c.loop-i-test.true (sym c.is_digit.ensures ∙ c.if-not-is_digit.true)
 
 pub overflow_sub-b : goal.overflow_sub-b
-overflow_sub-b c = omega (arith, digit_range _ ((sym c.is_digit.ensures ∙ not-false _ c.if-not-is_digit.false-raw)))
+overflow_sub-b c = omega (arith, digit_range _ (sym c.is_digit.ensures ∙ c.if-not-is_digit.false))
 
 pub overflow_cast-b : goal.overflow_cast-b
-overflow_cast-b c = omega (arith, digit_range _ ((sym c.is_digit.ensures ∙ not-false _ c.if-not-is_digit.false-raw)))
+overflow_cast-b c = omega (arith, digit_range _ (sym c.is_digit.ensures ∙ c.if-not-is_digit.false))
 
 pub shifted-value-requires : goal.shifted-value-requires
-shifted-value-requires c = omega (arith, digit_range _ ((sym c.is_digit.ensures ∙ not-false _ c.if-not-is_digit.false-raw)))
+shifted-value-requires c = omega (arith, digit_range _ (sym c.is_digit.ensures ∙ c.if-not-is_digit.false))
 
 pub loop-i-preserved : goal.loop-i-preserved
-loop-i-preserved c = laws.passes _ _ c.loop-i.invariant c.loop-i-test.true ((sym c.is_digit.ensures ∙ not-false _ c.if-not-is_digit.false-raw)) c.shifted-value.ensures
+loop-i-preserved c = laws.passes _ _ c.loop-i.invariant c.loop-i-test.true (sym c.is_digit.ensures ∙ c.if-not-is_digit.false) c.shifted-value.ensures
 
 pub returns : goal.returns
 returns c = laws.ends _ _ c.loop-i.invariant c.loop-i-test.false

@@ -14,9 +14,9 @@ pub returns-then-depth-base : goal.returns-then-depth-base
 returns-then-depth-base c rg r h = refusal _ _ _ (cons-few _ _ _ rg _ r (rw c.base-base.ensures at c.if-depth-base.true))
 
 pub returns-then-not-is_list : goal.returns-then-not-is_list
-returns-then-not-is_list c rg r h = refusal _ _ _ (cons_7 _ _ _ rg _ r h ((rw c.base-base.ensures at c.if-depth-base.false)) _ _ refl c.top-list.ensures (sym c.is_list.ensures ∙ not-true _ c.if-not-is_list.true-raw))
+returns-then-not-is_list c rg r h = refusal _ _ _ (cons_7 _ _ _ rg _ r h (rw c.base-base.ensures at c.if-depth-base.false) _ _ refl c.top-list.ensures (sym c.is_list.ensures ∙ c.if-not-is_list.true))
 
 pub returns : goal.returns
 returns c rg r h =
     c.push_value.ensures _ rg _ h (omega arith) (omega arith)
-    ∙ cons-made _ _ _ rg _ r h ((rw c.base-base.ensures at c.if-depth-base.false)) _ _ c.top-item.ensures c.top-list.ensures (sym c.is_list.ensures ∙ not-false _ c.if-not-is_list.false-raw)
+    ∙ cons-made _ _ _ rg _ r h (rw c.base-base.ensures at c.if-depth-base.false) _ _ c.top-item.ensures c.top-list.ensures (sym c.is_list.ensures ∙ c.if-not-is_list.false)

@@ -16,7 +16,7 @@ pub returns-then-row_room-next : goal.returns-then-row_room-next
 returns-then-row_room-next c rg r h = refusal _ _ _ (close_12 _ _ _ rg _ r _ ((omega (arith, c.if-noted-eq0.false))) c.base-base.ensures c.if-depth-low.false (rw c.row_room.ensures at c.if-row_room-next.true))
 
 pub returns-then-room-low : goal.returns-then-room-low
-returns-then-room-low c rg r h = refusal _ _ _ (close_13 _ _ _ rg _ r _ ((omega (arith, c.if-noted-eq0.false))) c.base-base.ensures c.if-depth-low.false ((rw c.row_room.ensures at c.if-row_room-next.false)) (rw c.room.ensures at c.if-room-low.true))
+returns-then-room-low c rg r h = refusal _ _ _ (close_13 _ _ _ rg _ r _ ((omega (arith, c.if-noted-eq0.false))) c.base-base.ensures c.if-depth-low.false (rw c.row_room.ensures at c.if-row_room-next.false) (rw c.room.ensures at c.if-room-low.true))
 
 pub overflow_cast-last : goal.overflow_cast-last
 unfolding row_room
@@ -34,4 +34,4 @@ unfolding row_room
 overflow_add-result-2 c = omega (arith, (rw c.row_room.ensures at c.if-row_room-next.false))
 
 pub returns : goal.returns
-returns c rg r h = rw c.store_tuple.ensures (close_goes _ _ _ rg _ r _ ((omega (arith, c.if-noted-eq0.false))) c.base-base.ensures c.if-depth-low.false h ((rw c.row_room.ensures at c.if-row_room-next.false)) ((rw c.room.ensures at c.if-room-low.false)) _ refl)
+returns c rg r h = rw c.store_tuple.ensures (close_goes _ _ _ rg _ r _ ((omega (arith, c.if-noted-eq0.false))) c.base-base.ensures c.if-depth-low.false h (rw c.row_room.ensures at c.if-row_room-next.false) (rw c.room.ensures at c.if-room-low.false) _ refl)

@@ -5,16 +5,16 @@ use Rattle.measure.proofs.Lengths.{exact, too_long}
 use Rattle.text.proofs.room.fits.Goals as goal
 
 pub bounds-stack-root : goal.bounds-stack-root
-bounds-stack-root c = omega (arith, ((passed _ _ _ _ c.requires.t)).among)
+bounds-stack-root c = omega (arith, (passed _ _ _ _ c.requires.sound).among)
 
 pub returns-then-n-lt-LONGEST : goal.returns-then-n-lt-LONGEST
-returns-then-n-lt-LONGEST c = exact _ _ _ (c.requires.measured _ ((passed _ _ _ _ c.requires.t)).among) c.if-n-lt-LONGEST.true
+returns-then-n-lt-LONGEST c = exact _ _ _ (c.requires.measured _ (passed _ _ _ _ c.requires.sound).among) c.if-n-lt-LONGEST.true
 
 pub returns-then-room : goal.returns-then-room
-returns-then-room c = too_long _ _ _ (c.requires.measured _ ((passed _ _ _ _ c.requires.t)).among) c.if-n-lt-LONGEST.false c.if-room.true
+returns-then-room c = too_long _ _ _ (c.requires.measured _ (passed _ _ _ _ c.requires.sound).among) c.if-n-lt-LONGEST.false c.if-room.true
 
 pub fits-requires : goal.fits-requires
-fits-requires c = c.requires.t
+fits-requires c = c.requires.sound
 
 pub returns : goal.returns
 returns c = c.fits.ensures

@@ -31,10 +31,14 @@ pub shape_of-output-then-not-is_leaf : goal.shape_of-output-then-not-is_leaf
 shape_of-output-then-not-is_leaf c = c.loop-words.invariant.same-output
 
 pub returns-then-not-is_leaf : goal.returns-then-not-is_leaf
-returns-then-not-is_leaf c = let all = into _ _ _ _ _ _ _ _ _ _ _ _ c.loop-words.invariant c.loop-words-test.true _ c.read_row-field.ensures c.requires.top_in_bounds.0 in record { ready_after = all.0; partly = all.1 }
+returns-then-not-is_leaf c =
+    let all = into _ _ _ _ _ _ _ _ _ _ _ _ c.loop-words.invariant c.loop-words-test.true _ c.read_row-field.ensures c.requires.top_in_bounds.0 in
+    record { ready_after = all.0; partly = all.1 }
 
 pub put-end-requires : goal.put-end-requires
-put-end-requires c = let all = leaf-fits _ _ _ _ _ _ _ _ _ _ _ _ c.loop-words.invariant c.loop-words-test.true _ c.read_row-field.ensures ((sym c.is_leaf.ensures ∙ not-false _ c.if-not-is_leaf.false-raw)) in record { inside = all.0; words_in_bounds = all.1 }
+put-end-requires c =
+    let all = leaf-fits _ _ _ _ _ _ _ _ _ _ _ _ c.loop-words.invariant c.loop-words-test.true _ c.read_row-field.ensures (sym c.is_leaf.ensures ∙ c.if-not-is_leaf.false) in
+    record { inside = all.0; room = all.1 }
 
 pub read_row-words-requires-in-loop-words : goal.read_row-words-requires-in-loop-words
 read_row-words-requires-in-loop-words c = (names-room _ _ _ _ _ _ _ _ _ _ _ _ c.loop-words.invariant c.loop-words-test.true).1
@@ -43,7 +47,7 @@ pub loop-words-smaller : goal.loop-words-smaller
 loop-words-smaller c = (earlier _ _ _ _ _ _ _ _ _ _ _ _ c.loop-words.invariant c.loop-words-test.true).1
 
 pub loop-words-preserved : goal.loop-words-preserved
-loop-words-preserved c = next _ _ _ _ _ _ _ _ _ _ _ _ c.loop-words.invariant c.loop-words-test.true _ c.read_row-field.ensures ((sym c.is_leaf.ensures ∙ not-false _ c.if-not-is_leaf.false-raw)) _ _ _ (c.put-end.ensures.output_after, c.put-end.ensures.value) c.read_row-words-in-loop-words.ensures
+loop-words-preserved c = next _ _ _ _ _ _ _ _ _ _ _ _ c.loop-words.invariant c.loop-words-test.true _ c.read_row-field.ensures (sym c.is_leaf.ensures ∙ c.if-not-is_leaf.false) _ _ _ (c.put-end.ensures.output_after, c.put-end.ensures.value) c.read_row-words-in-loop-words.ensures
 
 pub put_byte-requires : goal.put_byte-requires
 put_byte-requires c = close_fits _ _ _ _ _ _ _ _ _ _ _ _ c.loop-words.invariant c.loop-words-test.false
@@ -55,4 +59,6 @@ pub shape_of-output : goal.shape_of-output
 shape_of-output c = c.put_byte.auto.output ∙ c.loop-words.invariant.same-output
 
 pub returns : goal.returns
-returns c = let all = closed _ _ _ _ _ _ _ _ _ _ _ _ c.loop-words.invariant c.loop-words-test.false _ _ (c.put_byte.ensures.output_after, c.put_byte.ensures.value) in record { ready_after = all.0; partly = all.1 }
+returns c =
+    let all = closed _ _ _ _ _ _ _ _ _ _ _ _ c.loop-words.invariant c.loop-words-test.false _ _ (c.put_byte.ensures.output_after, c.put_byte.ensures.value) in
+    record { ready_after = all.0; partly = all.1 }

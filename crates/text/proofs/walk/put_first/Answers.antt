@@ -23,19 +23,21 @@ pub bounds-stack-frames : goal.bounds-stack-frames
 bounds-stack-frames c = frame-fits _ _ _ _ _ _ _ _ _ _ _ _ _ c.loop-n.invariant
 
 pub begin-begun-requires : goal.begin-begun-requires
-begin-begun-requires c = begin_fits _ _ _ _ _ _ _ _ _ _ _ _ _ c.loop-n.invariant ((sym c.is_leaf.ensures ∙ not-true _ c.loop-n-test.true-raw))
+begin-begun-requires c = begin_fits _ _ _ _ _ _ _ _ _ _ _ _ _ c.loop-n.invariant (sym c.is_leaf.ensures ∙ c.loop-n-test.true)
 
 pub read_row-words-requires-in-loop-n : goal.read_row-words-requires-in-loop-n
-read_row-words-requires-in-loop-n c = omega (arith, c.begin-begun.ensures.at_value.1, first-room _ _ _ _ _ _ _ _ _ _ _ _ _ c.loop-n.invariant ((sym c.is_leaf.ensures ∙ not-true _ c.loop-n-test.true-raw)))
+read_row-words-requires-in-loop-n c = omega (arith, c.begin-begun.ensures.at_value.1, first-room _ _ _ _ _ _ _ _ _ _ _ _ _ c.loop-n.invariant (sym c.is_leaf.ensures ∙ c.loop-n-test.true))
 
 pub loop-n-smaller : goal.loop-n-smaller
-loop-n-smaller c = omega (arith, c.begin-begun.ensures.at_value.1, first-earlier _ _ _ _ _ _ _ _ _ _ _ _ _ c.loop-n.invariant ((sym c.is_leaf.ensures ∙ not-true _ c.loop-n-test.true-raw)))
+loop-n-smaller c = omega (arith, c.begin-begun.ensures.at_value.1, first-earlier _ _ _ _ _ _ _ _ _ _ _ _ _ c.loop-n.invariant (sym c.is_leaf.ensures ∙ c.loop-n-test.true))
 
 pub loop-n-preserved : goal.loop-n-preserved
-loop-n-preserved c = entered _ _ _ _ _ _ _ _ _ _ _ _ _ c.loop-n.invariant ((sym c.is_leaf.ensures ∙ not-true _ c.loop-n-test.true-raw)) _ _ _ _ c.begin-begun.ensures.output_after c.begin-begun.ensures.at_value c.read_row-words-in-loop-n.ensures
+loop-n-preserved c = entered _ _ _ _ _ _ _ _ _ _ _ _ _ c.loop-n.invariant (sym c.is_leaf.ensures ∙ c.loop-n-test.true) _ _ _ _ c.begin-begun.ensures.output_after c.begin-begun.ensures.at_value c.read_row-words-in-loop-n.ensures
 
 pub put-requires : goal.put-requires
-put-requires c = let all = leaf-fits _ _ _ _ _ _ _ _ _ _ _ _ _ c.loop-n.invariant ((sym c.is_leaf.ensures ∙ not-false _ c.loop-n-test.false-raw)) in record { inside = all.0; words_in_bounds = all.1 }
+put-requires c =
+    let all = leaf-fits _ _ _ _ _ _ _ _ _ _ _ _ _ c.loop-n.invariant (sym c.is_leaf.ensures ∙ c.loop-n-test.false) in
+    record { inside = all.0; room = all.1 }
 
 pub shape_of-stack : goal.shape_of-stack
 shape_of-stack c = c.loop-n.invariant.same
@@ -44,4 +46,6 @@ pub shape_of-output : goal.shape_of-output
 shape_of-output c = c.put.auto.output ∙ c.loop-n.invariant.same-output
 
 pub returns : goal.returns
-returns c = let all = leaf-stored _ _ _ _ _ _ _ _ _ _ _ _ _ c.loop-n.invariant ((sym c.is_leaf.ensures ∙ not-false _ c.loop-n-test.false-raw)) _ _ (c.put.ensures.output_after, c.put.ensures.value) in record { falling = all.0; partly = all.1.0; at_lt_at = all.1.1 }
+returns c =
+    let all = leaf-stored _ _ _ _ _ _ _ _ _ _ _ _ _ c.loop-n.invariant (sym c.is_leaf.ensures ∙ c.loop-n-test.false) _ _ (c.put.ensures.output_after, c.put.ensures.value) in
+    record { falling = all.0; partly = all.1.0; rises = all.1.1 }

@@ -20,7 +20,9 @@ put_fields-requires c = record {
 
 pub put_quoted-requires : goal.put_quoted-requires
 unfolding frame_row
-put_quoted-requires c = let all = tag_fits _ _ _ _ _ _ c.requires.falling c.requires.room _ c.read_row-words.ensures c.in-9.is in record { n_in_bounds = all.0; n_in_bounds_2 = all.1 }
+put_quoted-requires c =
+    let all = tag_fits _ _ _ _ _ _ c.requires.falling c.requires.room _ c.read_row-words.ensures c.in-9.is in
+    record { span_inside = all.0; room = all.1 }
 
 pub put_item-requires : goal.put_item-requires
 unfolding frame_row
@@ -28,16 +30,20 @@ put_item-requires c = record {
   top_in_bounds = c.requires.top_in_bounds;
   falling = c.requires.falling;
   room = c.requires.room;
-  top_value = cell _ _ _ _ _ _ c.requires.falling c.requires.room _ c.read_row-words.ensures (λ e. omega arith) (λ e. omega arith);
+  cell = cell _ _ _ _ _ _ c.requires.falling c.requires.room _ c.read_row-words.ensures (λ e. omega arith) (λ e. omega arith);
 }
 
 pub returns-in-8 : goal.returns-in-8
 unfolding frame_row
-returns-in-8 c = let all = fields_turned _ _ _ _ _ _ c.requires.falling c.requires.room _ c.read_row-words.ensures c.in-8.is _ _ _ (c.put_fields.ensures.ready_after, c.put_fields.ensures.partly) in record { ready_after = all.0; partly = all.1 }
+returns-in-8 c =
+    let all = fields_turned _ _ _ _ _ _ c.requires.falling c.requires.room _ c.read_row-words.ensures c.in-8.is _ _ _ (c.put_fields.ensures.ready_after, c.put_fields.ensures.partly) in
+    record { ready_after = all.0; partly = all.1 }
 
 pub returns-in-9 : goal.returns-in-9
 unfolding frame_row
-returns-in-9 c = let all = tag-turned _ _ _ _ _ _ c.requires.falling c.requires.room _ c.read_row-words.ensures c.in-9.is _ _ (c.put_quoted.ensures.output_after, c.put_quoted.ensures.value) in record { ready_after = all.0; partly = all.1 }
+returns-in-9 c =
+    let all = tag-turned _ _ _ _ _ _ c.requires.falling c.requires.room _ c.read_row-words.ensures c.in-9.is _ _ (c.put_quoted.ensures.output_after, c.put_quoted.ensures.value) in
+    record { ready_after = all.0; partly = all.1 }
 
 pub returns-in_default : goal.returns-in_default
 returns-in_default c = record { ready_after = c.put_item.ensures.ready_after; partly = c.put_item.ensures.partly }
