@@ -2,7 +2,7 @@
 ghost use Rattle.std.specs.Prelude.{length};
 ghost use Rattle.ubfa_text.specs.Input.{InBuffer, SomeBytes};
 
-use libc::STDIN_FILENO;
+use std::io::Read;
 
 // How many bytes came, to the end of the input; more than the buffer holds; or a read failed.
 #[derive(Drop)]
@@ -21,26 +21,22 @@ enum Chunk {
 }
 
 // One read into the head of a buffer.
-fn read_chunk(buffer: &mut [u8]) -> Chunk
+fn read_chunk<R: Read>(input: &mut R, buffer: &mut [u8]) -> Chunk
     ensures { SomeBytes result (length buffer.old) }
 {
-    let got = libc::read(STDIN_FILENO, buffer);
-    if got < 0 {
-        return Chunk::Failed;
+    match input.read(buffer) {
+        Ok(0) => Chunk::Ended,
+        Ok(n) => Chunk::Bytes(n),
+        Err(_) => Chunk::Failed,
     }
-    let n = io::count(got, buffer);
-    if n == 0 {
-        return Chunk::Ended;
-    }
-    Chunk::Bytes(n)
 }
 
 // Whether the input ends after the n bytes of a full buffer, tried with a byte of its own.
-fn at_end(n: usize) -> Input
+fn at_end<R: Read>(input: &mut R, n: usize) -> Input
     ensures { InBuffer result n }
 {
     let mut extra = [0u8; 1];
-    let chunk = read_chunk(&mut extra);
+    let chunk = read_chunk(input, &mut extra);
     match chunk {
         Chunk::Bytes(_) => Input::TooLong,
         Chunk::Ended => Input::Bytes(n),
@@ -49,12 +45,12 @@ fn at_end(n: usize) -> Input
 }
 
 // Reads until the input ends, a read fails, or there is more than the buffer holds.
-pub(crate) fn read_message(buffer: &mut [u8]) -> Input
+pub(crate) fn read_message<R: Read>(input: &mut R, buffer: &mut [u8]) -> Input
     ensures { InBuffer result (length buffer.new) }
 {
     let mut n = 0;
     while n < buffer.len() {
-        let chunk = read_chunk(&mut buffer[n..]);
+        let chunk = read_chunk(input, &mut buffer[n..]);
         match chunk {
             Chunk::Bytes(more) => {
                 n += more;
@@ -67,5 +63,5 @@ pub(crate) fn read_message(buffer: &mut [u8]) -> Input
             }
         }
     }
-    at_end(n)
+    at_end(input, n)
 }

@@ -4,7 +4,7 @@
 use crate::input::Input;
 use crate::respond::Response;
 use format::{Offset, refusal};
-use libc::{STDERR_FILENO, STDOUT_FILENO};
+use std::io;
 
 mod input;
 mod respond;
@@ -14,56 +14,59 @@ const MESSAGE_BYTES: usize = 16384;
 
 const OUTPUT_BYTES: usize = 16384;
 
-// A part of the line; false where it cannot be written.
-fn print(s: &[u8]) -> bool {
-    io::write_all(STDOUT_FILENO, s)
+// A part of the line.
+fn print(rt: &impl Print, s: &[u8]) -> io::Result<()> {
+    rt.write_all(s)
 }
 
-fn print_number(n: u64) -> bool {
-    io::print_decimal(STDOUT_FILENO, n)
+fn print_number(rt: &impl Print, n: u64) -> io::Result<()> {
+    rt.print(n)
 }
 
-fn print_refusal(number: u8, place: Offset) -> bool {
-    print(b"refused ")
-        && print_number(number as u64)
-        && print(b" at ")
-        && print_number(place.0 as u64)
-        && print(b"\n")
+fn print_refusal(rt: &impl Print, number: u8, place: Offset) -> io::Result<()> {
+    print(rt, b"refused ")?;
+    print_number(rt, number as u64)?;
+    print(rt, b" at ")?;
+    print_number(rt, place.0 as u64)?;
+    print(rt, b"\n")
 }
 
 // The plain text of a message, or its refusal.
-fn print_answer(message: &[u8]) -> bool {
+fn print_answer(rt: &impl Print, message: &[u8]) -> io::Result<()> {
     let mut output = [0u8; OUTPUT_BYTES];
     let response = respond::respond(message, &mut output);
     match response {
-        Response::Text(n) => print(&output[..n]) && print(b"\n"),
-        Response::Refused(number, place) => print_refusal(number, place),
+        Response::Text(n) => {
+            print(rt, &output[..n])?;
+            print(rt, b"\n")
+        }
+        Response::Refused(number, place) => print_refusal(rt, number, place),
     }
 }
 
-fn complain(s: &[u8]) {
-    io::write_all(STDERR_FILENO, s);
+fn complain(rt: &impl Eprint, what: &str) {
+    let _ = rt.eprintln(what);
 }
 
 // The line is written whole, or it is said on standard error that it was not.
-fn finish(is_written: bool) {
-    if !is_written {
-        complain(b"ubfa: cannot write standard output\n");
+fn finish(rt: &impl Eprint, written: io::Result<()>) {
+    if written.is_err() {
+        complain(rt, "ubfa: cannot write standard output");
     }
 }
 
-fn main() {
+fn main(rt: HostRuntime) {
     let mut message = [0u8; MESSAGE_BYTES];
-    let got = input::read_message(&mut message);
+    let got = input::read_message(&mut rt.stdin(), &mut message);
     match got {
         Input::Bytes(n) => {
-            finish(print_answer(&message[..n]));
+            finish(&rt, print_answer(&rt, &message[..n]));
         }
         Input::TooLong => {
-            finish(print_refusal(refusal::OVER_BOUND, Offset(0)));
+            finish(&rt, print_refusal(&rt, refusal::OVER_BOUND, Offset(0)));
         }
         Input::Failed => {
-            complain(b"ubfa: cannot read standard input\n");
+            complain(&rt, "ubfa: cannot read standard input");
         }
     }
 }
