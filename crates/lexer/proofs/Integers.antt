@@ -13,7 +13,6 @@ use Rattle.format.specs.Byte as B
 use Rattle.format.specs.Byte.{has_class}
 use Rattle.format.specs.Lex.{in_range, digits}
 use Rattle.lexer.specs.declared.integer.Begun.{Begun}
-use Rattle.lexer.specs.declared.integer.Begun.TheVariants as Begun
 use Rattle.lexer.specs.declared.integer.Digits.{Digits}
 use Rattle.lexer.specs.declared.integer.Integer.{Integer}
 use Rattle.lexer.specs.declared.integer.Integer.TheVariants.{Value, Stray, Ended}

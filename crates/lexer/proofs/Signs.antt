@@ -12,7 +12,6 @@ use Rattle.format.specs.Lex as L
 use Rattle.format.specs.Lex.{in_range}
 use Rattle.format.specs.declared.Offset.{Offset}
 use Rattle.lexer.specs.declared.integer.Digits.{Digits}
-use Rattle.lexer.specs.declared.integer.Digits.TheVariants as Digits
 use Rattle.lexer.specs.declared.integer.Integer.TheVariants.{Value, OutOfRange}
 use Rattle.lexer.specs.Integer.{magnitude_cap, with_sign, ran_from}
 use Rattle.lexer.specs.Digits.{digit_run, signed_from}

@@ -5,7 +5,6 @@ use Rattle.format.specs.Lex as L
 use Rattle.format.specs.Lex.{in_range, digits}
 use Rattle.lexer.specs.declared.integer.Begun.TheVariants as Begun
 use Rattle.lexer.specs.declared.integer.Digits.{Digits}
-use Rattle.lexer.specs.declared.integer.Digits.TheVariants as Digits
 use Rattle.lexer.specs.declared.integer.Integer.{Integer}
 use Rattle.lexer.specs.declared.integer.Integer.TheVariants.{Value, OutOfRange, Ended}
 use Rattle.lexer.specs.Integer.{magnitude_cap, with_sign, value_after}

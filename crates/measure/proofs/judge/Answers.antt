@@ -1,7 +1,6 @@
 -- `measure::judge` meets its contract: the rows passed are judged, and measured where all rows are sound.
 use mathlib.Core.Path.{refl, sym, ◌∙◌}
 use native.Mathlib.Omega.{arith}
-use borrow.Author.Tests.{not-true, not-false}
 use Rattle.sound.proofs.Parts.{words_fail, text_fails, both-pass}
 use Rattle.measure.proofs.Lengths as laws
 use Rattle.measure.proofs.judge.Goals as goal

@@ -1,8 +1,6 @@
 -- `sound::is_spelled` meets its contract: the bytes from a place on are judged as all of them are.
 use mathlib.Core.Path.{sym, ◌∙◌}
-use mathlib.Core.Bool.{false}
 use native.Mathlib.Omega.{arith}
-use borrow.Author.Tests.{not-true, not-false}
 use Rattle.scan.proofs.Runs.{not-before}
 use Rattle.sound.proofs.Spelled as laws
 use Rattle.sound.proofs.is_spelled.Goals as goal

@@ -1,7 +1,6 @@
 -- `sound::sound_rows` meets its contract: the rows from a place on are judged as all of them are.
 use mathlib.Core.Path.{sym, ◌∙◌}
 use native.Mathlib.Omega.{arith}
-use borrow.Author.Tests.{not-true, not-false}
 use Rattle.sound.proofs.Parts.{words_fail, text_fails, both-pass}
 use Rattle.sound.proofs.Judged as laws
 use Rattle.sound.proofs.sound_rows.Goals as goal

@@ -1,6 +1,6 @@
 -- `sound::sound_table` meets its contract: its two tests and its call are the definition's three tests.
 use mathlib.Core.Path.{sym, ◌∙◌}
-use borrow.Author.Tests.{leb-true, not-true, not-false}
+use borrow.Author.Tests.{leb-true}
 use Rattle.format.specs.Sound.{count_fits, sound_table}
 use Rattle.sound.proofs.sound_table.Goals as goal
 

@@ -1,6 +1,6 @@
 -- `sound::spelled_in` meets its contract: past its test the span lies inside the slice, and its part is judged.
 use mathlib.Core.Path.{sym, ◌∙◌}
-use borrow.Author.Tests.{leb-true, not-true, not-false}
+use borrow.Author.Tests.{leb-true}
 use Rattle.format.specs.Sound.{in_slice, spelled_in}
 use Rattle.sound.proofs.Spelled.{by_end}
 use Rattle.sound.proofs.spelled_in.Goals as goal

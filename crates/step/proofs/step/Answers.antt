@@ -1,11 +1,10 @@
 -- `step::step` meets its contract: the class of the first byte tells the item, and each item does what the machine's step does.
-use Prim.Native.Nat.{◌+◌, ◌-◌}
-use mathlib.Core.Path.{◌≡◌, sym, ◌∙◌}
+use Prim.Native.Nat.{◌-◌}
+use mathlib.Core.Path.{sym, ◌∙◌}
 use native.Mathlib.Omega.{arith}
-use lib.ListN.{drop, get_or}
 use Rattle.format.specs.Byte as B
 use Rattle.format.specs.Byte.{Class, class_of, class_code}
-use Rattle.format.specs.Lex.{lex, item_of}
+use Rattle.format.specs.Lex.{item_of}
 use Rattle.format.specs.Rows.{row_room}
 use Rattle.step.proofs.Classes.{lex_of, only_comma, integer-lex, integer-first}
 use Rattle.literals.proofs.Spans.{atoms, strings}

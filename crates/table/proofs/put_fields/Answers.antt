@@ -1,12 +1,9 @@
 -- `table::put_fields` meets its contract: what is yet to be stored, stored into the table as it is, is what was to be stored
 -- into the table at first.
-use Prim.Native.Nat.{ℕ, ◌+◌, ◌≤◌}
-use mathlib.Core.Path.{◌≡◌, refl, sym, ◌∙◌}
-use mathlib.Core.List.{List}
+use mathlib.Core.Path.{refl, sym, ◌∙◌}
 use native.Mathlib.Omega.{arith}
-use lib.ListN.{length}
 use Rattle.format.specs.Rows.{row_room}
-use Rattle.table.proofs.Tuple.{with_fields, field_more, field_none}
+use Rattle.table.proofs.Tuple.{field_more, field_none}
 use Rattle.table.proofs.put_fields.Goals as goal
 
 pub loop-high-init : goal.loop-high-init

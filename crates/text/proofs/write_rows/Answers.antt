@@ -1,11 +1,7 @@
 -- `text::write_rows` meets its contract: 16, 15, or the text stored.
-use mathlib.Core.Path.{◌≡◌, sym, ◌∙◌, subst}
-use mathlib.Core.Bool.{true}
-use lib.Dec.{T, leb}
-use lib.ListN.{length}
-use borrow.Author.Tests.{not-true, not-false, leb-true}
-use Rattle.format.specs.Rows.{rows_of, term_at}
-use Rattle.format.specs.Text.{plain}
+use mathlib.Core.Path.{sym, ◌∙◌, subst}
+use lib.Dec.{T}
+use borrow.Author.Tests.{leb-true}
 use Rattle.text.proofs.Answered.{count_room, whole, rows_fail, too_long, has_room}
 use Rattle.text.proofs.write_rows.Goals as goal
 

@@ -1,8 +1,6 @@
 -- `text::write_table` meets its contract: 16 by the claims of the table, or what its rows give.
 use mathlib.Core.Path.{sym, ◌∙◌}
 use lib.Seq.{length-take-le}
-use borrow.Author.Tests.{not-true, not-false}
-use Rattle.format.specs.Sound.{count_fits, root_among}
 use Rattle.text.proofs.Answered.{claimed, count_fails, root_fails, by_rows}
 use Rattle.text.proofs.write_table.Goals as goal
 

@@ -1,7 +1,5 @@
 -- `leaves::leaf::put_quoted` meets its contract: the quote, the span and the quote are stored, each after the one before.
-use Prim.Native.Nat.{◌+◌, ◌≤◌}
 use native.Mathlib.Omega.{arith}
-use lib.ListN.{length}
 use Rattle.leaves.proofs.Leaves.{length-quoted, stored-quoted}
 use Rattle.leaves.proofs.leaf.put_quoted.Goals as goal
 

@@ -1,9 +1,7 @@
 -- `lexer::integer::read_digits` meets its contract: what the digits come to from a place on is what they come to from the first
 -- place on.
-use mathlib.Core.Bool.{true}
 use mathlib.Core.Path.{sym, ◌∙◌}
 use native.Mathlib.Omega.{arith}
-use borrow.Author.Tests.{not-true, not-false}
 use Rattle.lexer.proofs.Bytes.{digit_range}
 use Rattle.lexer.proofs.Runs as laws
 use Rattle.lexer.proofs.integer.read_digits.Goals as goal

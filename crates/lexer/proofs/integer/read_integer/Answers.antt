@@ -1,7 +1,6 @@
 -- `lexer::integer::read_integer` meets its contract, by what is begun.
 use mathlib.Core.Path.{sym, ◌∙◌}
 use native.Mathlib.Omega.{arith}
-use borrow.Author.Tests.{not-true, not-false}
 use Rattle.lexer.proofs.Bytes.{digit_range}
 use Rattle.lexer.proofs.Integers as laws
 use Rattle.lexer.proofs.integer.read_integer.Goals as goal

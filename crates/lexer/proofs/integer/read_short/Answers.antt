@@ -1,12 +1,6 @@
 -- `lexer::integer::read_short` meets its contract: the integer from a place on is the integer from the first place on.
-use Prim.Native.Nat.{◌+◌, ◌*◌, ◌-◌}
-use mathlib.Core.Bool.{true, false}
-use mathlib.Core.Path.{◌≡◌, refl, sym, ◌∙◌}
+use mathlib.Core.Path.{refl, sym, ◌∙◌}
 use native.Mathlib.Omega.{arith}
-use lib.ListN.{drop, get_or}
-use borrow.Author.Tests.{not-true, not-false}
-use Rattle.lexer.specs.declared.integer.Begun.TheVariants as Begun
-use Rattle.lexer.specs.Integer.{integer_from}
 use Rattle.lexer.proofs.Bytes.{digit_range}
 use Rattle.lexer.proofs.Integers as laws
 use Rattle.lexer.proofs.integer.read_short.Goals as goal

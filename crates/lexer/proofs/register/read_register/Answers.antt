@@ -1,6 +1,5 @@
 -- `lexer::register::read_register` meets its contract, one law for each of its three answers.
 use mathlib.Core.Path.{sym, ◌∙◌}
-use borrow.Author.Tests.{not-true, not-false}
 use Rattle.lexer.proofs.Registers as laws
 use Rattle.lexer.proofs.register.read_register.Goals as goal
 

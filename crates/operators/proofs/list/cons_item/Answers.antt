@@ -1,7 +1,6 @@
 -- `operators::list::cons_item` meets its contract: too few to pop, no list, or a row for the cell.
 use mathlib.Core.Path.{refl, sym, ◌∙◌}
 use native.Mathlib.Omega.{arith}
-use borrow.Author.Tests.{not-true, not-false}
 use Rattle.machine.proofs.Limits.{refusal}
 use Rattle.machine.proofs.Pops.{base-fits}
 use Rattle.operators.proofs.Lists.{cons-few, cons_7, cons-made}

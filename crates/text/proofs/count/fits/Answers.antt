@@ -1,12 +1,8 @@
 -- `text::count::fits` meets its contract: what is still to be counted has the room that is left exactly where the whole text had the room.
-use mathlib.Core.Path.{◌≡◌, ◌∙◌}
-use mathlib.Core.Bool.{Bool}
+use mathlib.Core.Path.{◌∙◌}
 use native.Mathlib.Omega.{arith}
-use lib.Dec.{leb}
-use lib.ListN.{length, set, length-set}
-use Rattle.format.specs.Rows.{rows_of, term_at}
-use Rattle.format.specs.Text.{plain}
-use Rattle.text.proofs.Counts.{to_count, some_word, begins, whole, top-inside, top-bound, named_fit, room-enough, too_long, next, less}
+use lib.ListN.{length-set}
+use Rattle.text.proofs.Counts.{some_word, begins, whole, top-inside, top-bound, named_fit, room-enough, too_long, next, less}
 use Rattle.text.proofs.count.fits.Goals as goal
 
 pub offset_bounds-stack-top : goal.offset_bounds-stack-top

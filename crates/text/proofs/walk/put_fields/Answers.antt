@@ -1,9 +1,7 @@
 -- `text::walk::put_fields` meets its contract.
 use mathlib.Core.Path.{sym, ◌∙◌, ap}
-use mathlib.Core.Bool.{true}
 use native.Mathlib.Omega.{arith}
 use lib.ListN.{length}
-use borrow.Author.Tests.{not-false}
 use Rattle.table.specs.Words.{last_first}
 use Rattle.text.proofs.Frames.{above-room}
 use Rattle.text.proofs.Fields.{starts, stack-length, into, leaf-fits, next, earlier, names-room, close_fits, closed}

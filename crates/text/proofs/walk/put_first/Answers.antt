@@ -1,7 +1,6 @@
 -- `text::walk::put_first` meets its contract.
 use mathlib.Core.Path.{sym, ◌∙◌}
 use native.Mathlib.Omega.{arith}
-use borrow.Author.Tests.{not-true, not-false}
 use Rattle.table.specs.Words.{last_first}
 use Rattle.text.proofs.Frames.{above-room}
 use Rattle.text.proofs.Entering.{starts, frame-fits, begin_fits, first-earlier, first-room, entered, leaf-fits, leaf-stored}

@@ -1,6 +1,5 @@
 -- `text::walk::put_item` meets its contract.
 use mathlib.Core.Path.{sym, ◌∙◌}
-use mathlib.Core.Bool.{true}
 use native.Mathlib.Omega.{arith}
 use Rattle.text.proofs.Items.{item_room, begun-fits, begun-done, leaf-fits, and-fits, item-done, into}
 use Rattle.text.proofs.walk.put_item.Goals as goal
