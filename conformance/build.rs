@@ -20,7 +20,7 @@ fn link(package: &Path) {
     println!("cargo::rerun-if-env-changed=UBFA_LIB_DIR");
     let folder = match env::var_os("UBFA_LIB_DIR") {
         Some(folder) => PathBuf::from(folder),
-        None => package.join("../target/staticlib"),
+        None => package.join("../crates/ubfa/out"),
     };
     println!("cargo::rustc-link-search=native={}", folder.display());
     if folder.join("libubfa.so").is_file() {
@@ -31,7 +31,7 @@ fn link(package: &Path) {
     println!("cargo::rerun-if-changed={}", archive.display());
     if !archive.is_file() {
         println!(
-            "cargo::error={} is missing: run rt staticlib ubfa at the root of the repository, or name its folder in UBFA_LIB_DIR",
+            "cargo::error={} is missing: run rt lib in crates/ubfa, or name its folder in UBFA_LIB_DIR",
             archive.display()
         );
     }

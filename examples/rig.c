@@ -1,5 +1,5 @@
 /* A ground rig in a page: decodes two messages, compares them, prints their texts or refusals, and reads a sensor word of the first.
- *   cc -std=c11 -Iinclude examples/rig.c target/staticlib/libubfa.a -o rig && ./rig '{#2 &1 &}$' '1 >a{#2 &a&}$'
+ *   cc -std=c11 -Iinclude examples/rig.c crates/ubfa/out/libubfa.a -o rig && ./rig '{#2 &1 &}$' '1 >a{#2 &a&}$'
  * Without arguments it runs on messages of its own. */
 #include <inttypes.h>
 #include <stdio.h>

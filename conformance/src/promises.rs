@@ -13,7 +13,10 @@ pub fn inside(list: &str) -> Vec<&str> {
 pub fn listed(list: &str) -> Vec<&str> {
     let lines = list.lines().filter(|line| !line.starts_with('#'));
     let split = lines.filter_map(|line| line.split_once(':'));
-    split.map(|(name, _)| name.trim()).collect()
+    // a static library says so after its name
+    split
+        .filter_map(|(name, _)| name.split_whitespace().next())
+        .collect()
 }
 
 /// What the public functions of a source lack, a line for each fault.
@@ -54,8 +57,9 @@ impl<'a> Head<'a> {
         let mut rest = &text[end..];
         while let Some(open) = rest.find('{') {
             let words: Vec<&str> = rest[..open].split_whitespace().collect();
-            // a clause may have a name of its own
-            let last: Vec<&str> = words.iter().rev().take(2).copied().collect();
+            // a clause may have a name of its own, and one that speaks of memory has a star
+            let last = words.iter().rev().take(2);
+            let last: Vec<&str> = last.map(|word| word.trim_end_matches('*')).collect();
             let clause = &rest[open..close(rest, open)];
             if last.contains(&"requires") {
                 head.requires.push(clause);
@@ -78,9 +82,9 @@ impl<'a> Head<'a> {
             found.push(format!("{} has no ensures", self.name));
         }
         for buffer in self.lent() {
-            // a name with an underscore stands in quotes there
-            let exits = [format!("({buffer} .exit)"), format!("(«{buffer}» .exit)")];
-            let named = |clause: &&str| exits.iter().any(|exit| clause.contains(exit));
+            // a name that is a word of clauses stands in quotes there
+            let ends = [format!("{buffer}.new"), format!("«{buffer}».new")];
+            let named = |clause: &&str| ends.iter().any(|end| names(clause, end));
             if !self.ensures.iter().any(|clause| named(clause)) {
                 found.push(format!("{} says nothing of {buffer} at exit", self.name));
             }
@@ -95,6 +99,16 @@ impl<'a> Head<'a> {
         let lent = typed.filter(|(_, kind)| kind.contains('&') && kind.contains("mut "));
         lent.map(|(name, _)| name.trim()).collect()
     }
+}
+
+/// Whether a clause has this, and not only as a part of a longer name.
+fn names(clause: &str, wanted: &str) -> bool {
+    let is_part = |c: char| c.is_alphanumeric() || "_-'".contains(c);
+    clause.match_indices(wanted).any(|(at, _)| {
+        let before = clause[..at].chars().next_back();
+        let after = clause[at + wanted.len()..].chars().next();
+        !before.is_some_and(is_part) && !after.is_some_and(is_part)
+    })
 }
 
 /// Where the brace at `open` is closed.
@@ -120,8 +134,8 @@ mod tests {
     const ASKS: &str = "
 // pub fn none(x: u8)
 pub fn fill(n: usize, to: &mut [u8]) -> usize
-    requires { ⌜ n ≤ length (now to) ⌝ }
-    ensures whole { λ r. ⌜ now (to .exit) ≡ filled n ⌝ }
+    requires room { n ≤ length to.old }
+    ensures whole { to.new ≡ filled n }
 {
     n
 }
@@ -135,8 +149,10 @@ pub fn fill(n: usize, to: &mut [u8]) -> usize
 
     #[test]
     fn silence_is_a_fault() {
-        let silent = ASKS.replace("(to .exit)", "(to .entry)");
-        assert_eq!(faults(&silent, true), ["fill says nothing of to at exit"]);
+        for other in ["to.old", "into.new", "to.newer"] {
+            let silent = ASKS.replace("to.new", other);
+            assert_eq!(faults(&silent, true), ["fill says nothing of to at exit"]);
+        }
         let bare = "pub extern \"C\" fn f(a: &[u8],\n    b: &mut [u32]) -> u8 {\n    if true { 1 } else { 2 }\n}\n";
         let expected = ["f has no ensures", "f says nothing of b at exit"];
         assert_eq!(faults(bare, false), expected);
@@ -149,7 +165,7 @@ pub fn fill(n: usize, to: &mut [u8]) -> usize
 
     #[test]
     fn crates_are_read_off_the_list() {
-        let list = "# each crate\n# inside: a b\na:\nb: a\nc: a b\n";
+        let list = "# each crate\n# inside: a b\na:\nb: a\nc staticlib: a b\n";
         assert_eq!(inside(list), ["a", "b"]);
         assert_eq!(listed(list), ["a", "b", "c"]);
     }

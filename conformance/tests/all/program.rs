@@ -16,7 +16,7 @@ const GENERATED: u64 = 500;
 
 /// The program itself, which ./ubfa builds and runs.
 fn program() -> Command {
-    let file = PathBuf::from(env!("CARGO_MANIFEST_DIR")).join("../target/bin/ubfa_text");
+    let file = PathBuf::from(env!("CARGO_MANIFEST_DIR")).join("../crates/ubfa_text/out/ubfa_text");
     assert!(file.is_file(), "{} is missing: run ./ubfa", file.display());
     Command::new(file)
 }
