@@ -55,7 +55,7 @@ module _ (message : List ℕ) (start n : ℕ) (inside : start + n ≤ length mes
   no_word e h = refuses 20 answer (omega arith) (rw (length-span message start n inside, eq-eqb (n % w) 0 e, le-leb (n / w) k h) refl)
 
   module _ (h : k < n / w) where
-    word_end : start + k * w + w ≤ length message
+    pub word_end : start + k * w + w ≤ length message
     word_end = omega (arith, word-inside n w k h)
 
     -- no more bits than the width has

@@ -20,7 +20,7 @@ module _ (w bits : ℕ) (p : (0 < w) × (8 * w < 64) × (bits < 2 ^ (8 * w))) wh
   pub all_values : (1 * 2 ^ (8 * w)) % 2 ^ 64 ≡ 2 ^ (8 * w)
   all_values = mod-eq_of_lt (omega (arith, values-below)) ∙ one-mul (2 ^ (8 * w))
 
-  bits_fit : SFits w64 (pos bits)
+  pub bits_fit : SFits w64 (pos bits)
   bits_fit = record { sfits = omega (arith, p.2, values-below) }
 
   pub values_fit : SFits w64 (pos (2 ^ (8 * w)))
@@ -30,7 +30,7 @@ module _ (w bits : ℕ) (p : (0 < w) × (8 * w < 64) × (bits < 2 ^ (8 * w))) wh
   number_fits = record { sfits = omega (arith, values-below, two-halves w p.0, signed_range w p.0 bits p.2) }
 
   -- the machine's numbers: the bits as they are, and those less all values of the width
-  unsigned_number : to_z w64 bits ≡ pos bits
+  pub unsigned_number : to_z w64 bits ≡ pos bits
   unsigned_number = to_z_pos w64 bits bits_fit.sfits
 
   pub lower-number : bits < (1 * 2 ^ (8 * w)) % 2 ^ 64 / 2 → to_z w64 bits ≡ from_bits (8 * w) bits
