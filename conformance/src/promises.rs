@@ -11,11 +11,19 @@ pub fn inside(list: &str) -> Vec<&str> {
 
 /// The crates that crates.txt lists.
 pub fn listed(list: &str) -> Vec<&str> {
+    seen(list).into_iter().map(|(name, _)| name).collect()
+}
+
+/// The same with what each of them sees.
+pub fn seen(list: &str) -> Vec<(&str, Vec<&str>)> {
     let lines = list.lines().filter(|line| !line.starts_with('#'));
     let split = lines.filter_map(|line| line.split_once(':'));
     // a static library says so after its name
     split
-        .filter_map(|(name, _)| name.split_whitespace().next())
+        .filter_map(|(name, sees)| {
+            let name = name.split_whitespace().next()?;
+            Some((name, sees.split_whitespace().collect()))
+        })
         .collect()
 }
 
