@@ -15,7 +15,7 @@ mod same;
 mod search;
 
 // The plain texts are the same bytes, or they differ; or a refusal's number.
-#[derive(Drop)]
+#[derive(Clone, Copy)]
 pub enum Compared {
     Equal,
     Different,
@@ -23,7 +23,7 @@ pub enum Compared {
 }
 
 // The number of a row over both sides: the first side's rows come first, the second side's after them.
-#[derive(Drop)]
+#[derive(Clone, Copy)]
 pub(crate) struct JointRow(pub u32);
 
 // How many rows are used on both sides together, in 64 bits, where no sum of two counts wraps.

@@ -12,7 +12,7 @@ use format::{Offset, Row};
 use words::Word;
 
 // A round trip: the refusal of the writing; or the bytes read, the root and the rows used; or the refusal of the reading.
-#[derive(Drop)]
+#[derive(Clone, Copy)]
 pub enum RoundTrip {
     NotWritten(u8),
     Read(usize, Row, u32),
@@ -30,7 +30,7 @@ pub fn read_answer(d: Decoded) -> RoundTrip
 }
 
 // A message decoded, and a word of its term: the refusal of the message; the refusal of the word; or the word.
-#[derive(Drop)]
+#[derive(Clone, Copy)]
 pub enum MessageWord {
     NotDecoded(u8, Offset),
     NoWord(u8),
@@ -49,7 +49,7 @@ pub fn word_answer(w: Word) -> MessageWord
 
 // Two messages decoded and compared: the refusal of the first, or of the second; a scratch shorter than the rows used of both; or whether the full plain
 // texts of the two terms are the same bytes.
-#[derive(Drop)]
+#[derive(Clone, Copy)]
 pub enum MessagesCompared {
     FirstRefused(u8, Offset),
     SecondRefused(u8, Offset),

@@ -13,7 +13,7 @@ use format::{Offset, byte, kind};
 use table::{RowWords, SIGN_BIT, WORD_VALUES};
 
 // The sign and the magnitude of an integer.
-#[derive(Drop)]
+#[derive(Clone, Copy)]
 pub struct Signed {
     pub negative: bool,
     pub magnitude: u64,

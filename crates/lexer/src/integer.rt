@@ -8,14 +8,14 @@ use format::{Offset, byte, class};
 
 // An integer of which the first bytes are read: a minus, or digits. Of digits, whether a minus stands before them, and their value,
 // which need not be exact past the largest magnitude.
-#[derive(Drop)]
+#[derive(Clone, Copy)]
 pub enum Begun {
     Minus,
     Digits(bool, u64),
 }
 
 // The 64 bits of its two's complement, with the place after it; out of range; a byte not allowed there; or the slice's end.
-#[derive(Drop)]
+#[derive(Clone, Copy)]
 pub enum Integer {
     Value(u64, Offset),
     OutOfRange,
@@ -24,7 +24,7 @@ pub enum Integer {
 }
 
 // A run of digits: its value with the place after it, or the value at the slice's end.
-#[derive(Drop)]
+#[derive(Clone, Copy)]
 enum Digits {
     Value(u64, Offset),
     Ended(u64),

@@ -9,7 +9,7 @@ const NEAR: usize = 16;
 
 // How many bytes were read before the closing quote, with the place after it; a byte not allowed there; or the slice's end,
 // and whether a backslash is the last byte read.
-#[derive(Drop)]
+#[derive(Clone, Copy)]
 pub enum Quoted {
     Closed(usize, Offset),
     Stray(Offset),

@@ -5,7 +5,7 @@ ghost use Rattle.lexer.specs.Register.{register_from};
 use format::{Offset, class};
 
 // The register's byte, with the place after it; a byte that names no register; or the slice's end.
-#[derive(Drop)]
+#[derive(Clone, Copy)]
 pub enum Register {
     Named(u8, Offset),
     Stray(Offset),

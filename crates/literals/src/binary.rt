@@ -16,7 +16,7 @@ use machine::{state, value};
 use table::RowWords;
 
 // What a row is as a count: its value, no integer, or a negative one.
-#[derive(Drop)]
+#[derive(Clone, Copy)]
 pub(crate) enum Count {
     Of(u64),
     NoInteger,

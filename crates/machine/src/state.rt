@@ -15,7 +15,7 @@ pub struct State {
 }
 
 // What an item does: the machine goes on, the message ends with its root row, or it is refused.
-#[derive(Drop)]
+#[derive(Clone, Copy)]
 pub enum Answer {
     More(State),
     Done(Row),

@@ -16,7 +16,7 @@ mod store;
 mod walk;
 
 // How many bytes were written; or a refusal's number.
-#[derive(Drop)]
+#[derive(Clone, Copy)]
 pub enum Written {
     Bytes(usize),
     Refused(u8),

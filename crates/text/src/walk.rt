@@ -13,28 +13,28 @@ use table::RowWords;
 const ITEM_BEGUN: u32 = bound::ROWS as u32;
 
 // How many frames lie on the stack, and where the text goes on.
-#[derive(Drop)]
+#[derive(Clone, Copy)]
 pub(crate) struct Place {
     pub depth: usize,
     pub at: usize,
 }
 
 // After a frame's turn: a row that comes next, above the frame; or the frame is done. And where the text goes on.
-#[derive(Drop)]
+#[derive(Clone, Copy)]
 pub(crate) enum After {
     Into(Row, usize),
     Done(usize),
 }
 
 // After turns of the frames: a row that comes next, above so many frames; or only `$`. And where the text goes on.
-#[derive(Drop)]
+#[derive(Clone, Copy)]
 pub(crate) enum Rest {
     Into(Row, usize, usize),
     Whole(usize),
 }
 
 // The row whose text comes first in a row's own, and where the text goes on.
-#[derive(Drop)]
+#[derive(Clone, Copy)]
 struct Begun {
     row: Row,
     at: usize,

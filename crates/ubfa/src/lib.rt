@@ -19,7 +19,7 @@ use words::Word;
 
 // 0, bytes consumed, root row and rows used; or a refusal's number, its place, 0 and 0.
 #[repr(C)]
-#[derive(Drop)]
+#[derive(Clone, Copy)]
 pub struct UbfaDecoded {
     pub number: u32,
     pub place: u32,
@@ -29,7 +29,7 @@ pub struct UbfaDecoded {
 
 // 0 and the bytes written; or a refusal's number and 0.
 #[repr(C)]
-#[derive(Drop)]
+#[derive(Clone, Copy)]
 pub struct UbfaWritten {
     pub number: u32,
     pub bytes: u64,
@@ -37,7 +37,7 @@ pub struct UbfaWritten {
 
 // 0 and 1 for equal, 0 and 0 for different; or a refusal's number and 0.
 #[repr(C)]
-#[derive(Drop)]
+#[derive(Clone, Copy)]
 pub struct UbfaCompared {
     pub number: u32,
     pub equal: u32,
@@ -45,7 +45,7 @@ pub struct UbfaCompared {
 
 // 0 and the word; or a refusal's number and 0.
 #[repr(C)]
-#[derive(Drop)]
+#[derive(Clone, Copy)]
 pub struct UbfaWord {
     pub number: u32,
     pub value: i64,

@@ -5,7 +5,7 @@ ghost use Rattle.ubfa_text.specs.Input.{InBuffer, SomeBytes};
 use std::io::Read;
 
 // How many bytes came, to the end of the input; more than the buffer holds; or a read failed.
-#[derive(Drop)]
+#[derive(Clone, Copy)]
 pub(crate) enum Input {
     Bytes(usize),
     TooLong,
@@ -13,7 +13,7 @@ pub(crate) enum Input {
 }
 
 // What one read brings: so many bytes; nothing, as the input has ended; or it failed.
-#[derive(Drop)]
+#[derive(Clone, Copy)]
 enum Chunk {
     Bytes(usize),
     Ended,

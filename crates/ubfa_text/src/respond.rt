@@ -15,7 +15,7 @@ const STACK: usize = 256;
 const MARKS: usize = 64;
 
 // The bytes of a plain text at the head of the output; or a refusal's number and place.
-#[derive(Drop)]
+#[derive(Clone, Copy)]
 pub(crate) enum Response {
     Text(usize),
     Refused(u8, Offset),

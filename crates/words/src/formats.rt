@@ -23,7 +23,7 @@ pub(crate) struct Layout {
 }
 
 // What a name says; nothing where it is not known.
-#[derive(Drop)]
+#[derive(Clone, Copy)]
 pub(crate) enum Found {
     Known(Layout),
     Unknown,

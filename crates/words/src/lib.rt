@@ -18,7 +18,7 @@ mod formats;
 mod join;
 
 // A word, or a refusal's number.
-#[derive(Drop)]
+#[derive(Clone, Copy)]
 pub enum Word {
     Value(i64),
     Refused(u8),
