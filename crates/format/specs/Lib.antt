@@ -16,7 +16,8 @@ pub mod Text
 pub mod Sound
 -- 'Sensor words'
 pub mod Word
--- 'Refusal numbers': the whole answer of each public function
+-- 'Refusal numbers', and the whole answer of each public function
+pub mod Number
 pub mod Answer
 -- 'Bench messages', and cases of our own
 pub mod Bench

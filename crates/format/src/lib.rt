@@ -8,15 +8,15 @@ pub mod kind;
 pub mod refusal;
 
 // The number of a row in a row table.
-#[derive(Clone, Copy)]
+#[derive(Clone, Copy, Debug, PartialEq, Eq)]
 pub struct Row(pub u32);
 
 // A place in a message, counted in bytes from its start.
-#[derive(Clone, Copy)]
+#[derive(Clone, Copy, Debug, PartialEq, Eq)]
 pub struct Offset(pub usize);
 
 // A stack depth: how many values lie below.
-#[derive(Clone, Copy)]
+#[derive(Clone, Copy, Debug, PartialEq, Eq)]
 pub struct Depth(pub usize);
 
 // Words of a row.

@@ -1,59 +1,70 @@
-//! The refusal numbers (01, 'Refusal numbers').
+//! The refusals (01, 'Refusal numbers'), and where in a message one stands.
+ghost use Rattle.std.specs.Prelude.{◌≡◌};
+ghost use Rattle.format.specs.Number.{number_of};
 
-// A message slice over its bound.
-pub const OVER_BOUND: u8 = 1;
+use crate::Offset;
+use std::fmt;
 
-// A table too short to begin.
-pub const SHORT_TABLE: u8 = 2;
+// Each with its number: the first is 1, and each is one more than the one before.
+#[derive(Clone, Copy, Debug, PartialEq, Eq)]
+pub enum Refusal {
+    // A message slice over its bound.
+    OverBound = 1,
+    // A table too short to begin.
+    ShortTable,
+    // The slice ends inside an item or before `$`.
+    Cut,
+    // A byte not allowed there.
+    Stray,
+    // An integer out of range.
+    OutOfRange,
+    // A pop or tag with too few values above the mark.
+    TooFew,
+    // `~` without an integer, `&` without a list.
+    WrongKind,
+    // A negative count.
+    Negative,
+    // An empty register pushed.
+    EmptyRegister,
+    // `}` with no mark, `$` with one.
+    Unbalanced,
+    // `$` with a depth other than 1.
+    DepthNotOne,
+    // No room in rows, stack, marks.
+    NoRows,
+    NoStack,
+    NoMarks,
+    // A plain text longer than the output.
+    TooLong,
+    // Unsound rows.
+    Unsound,
+    // `}` with a depth under the mark.
+    UnderMark,
+    // Not a sensor block: no tag with a known name directly over a binary.
+    NoBlock,
+    // A block's length that is no multiple of its words' width.
+    Uneven,
+    // No such word.
+    NoWord,
+}
 
-// The slice ends inside an item or before `$`.
-pub const CUT: u8 = 3;
+impl From<Refusal> for u32 {
+    ghost from_gives = { λ refusal number. number ≡ number_of refusal };
 
-// A byte not allowed there.
-pub const STRAY: u8 = 4;
+    fn from(refusal: Refusal) -> u32 {
+        refusal as u32
+    }
+}
 
-// An integer out of range.
-pub const OUT_OF_RANGE: u8 = 5;
+// The refusal of a message, at a place.
+#[derive(Clone, Copy, Debug, PartialEq, Eq)]
+pub struct Refused {
+    pub refusal: Refusal,
+    pub place: Offset,
+}
 
-// A pop or tag with too few values above the mark.
-pub const TOO_FEW: u8 = 6;
-
-// `~` without an integer, `&` without a list.
-pub const WRONG_KIND: u8 = 7;
-
-// A negative count.
-pub const NEGATIVE: u8 = 8;
-
-// An empty register pushed.
-pub const EMPTY_REGISTER: u8 = 9;
-
-// `}` with no mark, `$` with one.
-pub const UNBALANCED: u8 = 10;
-
-// `$` with a depth other than 1.
-pub const DEPTH: u8 = 11;
-
-// No room in rows, stack, marks.
-pub const NO_ROWS: u8 = 12;
-
-pub const NO_STACK: u8 = 13;
-
-pub const NO_MARKS: u8 = 14;
-
-// A plain text longer than the output.
-pub const TOO_LONG: u8 = 15;
-
-// Unsound rows.
-pub const UNSOUND: u8 = 16;
-
-// `}` with a depth under the mark.
-pub const UNDER_MARK: u8 = 17;
-
-// Not a sensor block: no tag with a known name directly over a binary.
-pub const NO_BLOCK: u8 = 18;
-
-// A block's length that is no multiple of its words' width.
-pub const UNEVEN: u8 = 19;
-
-// No such word.
-pub const NO_WORD: u8 = 20;
+impl fmt::Display for Refused {
+    fn fmt<W: fmt::Write>(&self, f: &mut fmt::Formatter<W>) -> fmt::Result {
+        write!(f, "refused {} at {}", u32::from(self.refusal), self.place.0)
+    }
+}
