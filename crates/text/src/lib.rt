@@ -8,19 +8,13 @@ ghost use Rattle.format.specs.Rows.{rows_of};
 ghost use Rattle.format.specs.Sound.{count_fits, root_among};
 ghost use Rattle.text.specs.Answers.{written_as, write_rows};
 
-use format::{Row, bound, refusal};
+use format::refusal::Refusal;
+use format::{Row, bound};
 
 mod count;
 mod room;
 mod store;
 mod walk;
-
-// How many bytes were written; or a refusal's number.
-#[derive(Clone, Copy)]
-pub enum Written {
-    Bytes(usize),
-    Refused(u8),
-}
 
 // Writes the plain text of the root where the rows are sound and it has room. The stack has a word for each row used.
 fn write_rows(
@@ -29,17 +23,17 @@ fn write_rows(
     root: Row,
     stack: &mut [u32],
     output: &mut [u8],
-) -> Written
+) -> Result<usize, Refusal>
     requires { T (count_fits rows.now (length stack.old) && root_among (length stack.old) root.0) }
     ensures { (scratch : List ℕ) → written_as result (zeroed scratch) output.new ≡ write_rows message.now (rows_of (length stack.old) rows.now) root.0 scratch output.old }
 {
     if !measure::judge(message, rows, stack) {
-        return Written::Refused(refusal::UNSOUND);
+        return Err(Refusal::Unsound);
     }
     if !room::fits(message, rows, root, stack, output.len()) {
-        return Written::Refused(refusal::TOO_LONG);
+        return Err(Refusal::TooLong);
     }
-    Written::Bytes(store::store_text(message, rows, root, stack, output))
+    Ok(store::store_text(message, rows, root, stack, output))
 }
 
 // Writes where the table is sound. The scratch, which has a word for each row used, is left as the walk leaves it.
@@ -50,21 +44,21 @@ fn write_table(
     root: Row,
     scratch: &mut [u32],
     output: &mut [u8],
-) -> Written
+) -> Result<usize, Refusal>
     requires { (length message.now ≤ message_bound) × (used ≤ length scratch.old) }
     ensures { written_as result (zeroed scratch.old) output.new ≡ write_answer message.now rows.now used root.0 scratch.old output.old }
 {
     if !sound::count_fits(rows, used) {
-        return Written::Refused(refusal::UNSOUND);
+        return Err(Refusal::Unsound);
     }
     if !sound::root_among(used, root) {
-        return Written::Refused(refusal::UNSOUND);
+        return Err(Refusal::Unsound);
     }
     let n = used as usize;
     write_rows(message, rows, root, &mut scratch[..n], output)
 }
 
-// Writes the plain text of row `root` of a table of `used` rows at the head of the output. The scratch is working memory, a word for each row used.
+// Writes the plain text of row `root` of a table of `used` rows at the head of the output, and answers how many bytes it has. The scratch is working memory, a word for each row used.
 // A refusal changes no output byte; after all but 1 and 2 the scratch is zero.
 pub fn write(
     message: &[u8],
@@ -73,14 +67,14 @@ pub fn write(
     root: Row,
     scratch: &mut [u32],
     output: &mut [u8],
-) -> Written
+) -> Result<usize, Refusal>
     ensures { written_as result scratch.new output.new ≡ write_answer message.now rows.now used root.0 scratch.old output.old }
 {
     if bound::MESSAGE_BYTES < message.len() {
-        return Written::Refused(refusal::OVER_BOUND);
+        return Err(Refusal::OverBound);
     }
     if scratch.len() < used as usize {
-        return Written::Refused(refusal::SHORT_TABLE);
+        return Err(Refusal::ShortTable);
     }
     let answer = write_table(message, rows, used, root, scratch, output);
     table::clear(scratch);
