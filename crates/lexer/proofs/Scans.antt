@@ -8,11 +8,13 @@ use native.Mathlib.Omega.{arith}
 use lib.ListN.{length, drop, get_or, drop_of_length-le}
 use lib.Dec.{eqb}
 use borrow.Author.Tests.{eq-eqb, ne_eqb}
+use Rattle.std.specs.Prelude.{Result, Ok, Err}
 use Rattle.format.specs.Lex.{scan}
 use Rattle.scan.specs.Plain.{is_mark, plain_end}
 use Rattle.scan.proofs.Runs.{no_quote, no_backslash, is-backslash, along, within, plain, stops}
 use Rattle.lexer.specs.declared.quoted.Quoted.{Quoted}
-use Rattle.lexer.specs.declared.quoted.Quoted.TheVariants.{Closed, Stray, Ended}
+use Rattle.lexer.specs.declared.quoted.Unclosed.{Unclosed}
+use Rattle.lexer.specs.declared.quoted.Unclosed.TheVariants.{Stray, Ended}
 use Rattle.lexer.specs.Quoted.{escaped_after, scanned, quoted_from}
 use Rattle.lexer.proofs.Bytes.{byte_at, next-count}
 
@@ -22,7 +24,7 @@ or_true false = refl
 
 module _ (quote start : ℕ) (message : List ℕ) where
   -- what is found from i on; `held` says that the byte before is a backslash that escapes the next
-  abbrev found : Bool → ℕ → Quoted
+  abbrev found : Bool → ℕ → Result Quoted Unclosed
   found held i = scanned start (escaped_after held (drop i message)) (scan quote held (i - start) (drop i message))
 
   -- the look has come to i, and finds from there what it finds from `start`
@@ -35,7 +37,7 @@ module _ (quote start : ℕ) (message : List ℕ) where
   begins escaped = let z : start - start ≡ 0 = omega arith in record { past = omega arith; left = rw z }
 
   module _ {escaped : Bool} {i : ℕ} {held : Bool} (l : Looking escaped i held) where
-    pub ends : length message ≤ i → Ended held ≡ quoted_from quote escaped start (drop start message)
+    pub ends : length message ≤ i → Err (Ended held) ≡ quoted_from quote escaped start (drop start message)
     unfolding scan escaped_after scanned
     ends h = rw (drop_of_length-le message h) at l.left
 
@@ -44,7 +46,7 @@ module _ (quote start : ℕ) (message : List ℕ) where
       next after e = record { past = omega (arith, l.past); left = sym e ∙ l.left }
 
       pub strays : held ≡ true → (get_or message i 0 ≡ 92 → ⊥) → (get_or message i 0 ≡ quote → ⊥)
-          → Stray (record { 0 = i }) ≡ quoted_from quote escaped start (drop start message)
+          → Err (Stray (record { 0 = i })) ≡ quoted_from quote escaped start (drop start message)
       unfolding scan scanned
       strays e n m =
           let k : start + (i - start) ≡ i = omega (arith, l.past) in
@@ -61,7 +63,7 @@ module _ (quote start : ℕ) (message : List ℕ) where
       pub escaped_quote : held ≡ true → get_or message i 0 ≡ quote → Looking escaped (i + 1) false
       escaped_quote e b = escapes e (rw (eq-eqb _ _ b, or_true))
 
-      closes : held ≡ false → get_or message i 0 ≡ quote → Closed (i - start) (record { 0 = i + 1 }) ≡ quoted_from quote escaped start (drop start message)
+      closes : held ≡ false → get_or message i 0 ≡ quote → Ok (record { count = i - start; end = record { 0 = i + 1 } }) ≡ quoted_from quote escaped start (drop start message)
       unfolding scan scanned
       closes e b =
           let k : suc (start + (i - start)) ≡ i + 1 = omega (arith, l.past) in
@@ -85,11 +87,11 @@ module _ (quote start : ℕ) (message : List ℕ) where
         let run = plain quote message i end inside h in
         rw e (along quote message run (λ k. Looking escaped k false) (rw shut at l) (λ k b n passed. passes-plain passed (omega (arith, m)) refl n))
 
-    pub run_ends : length message ≤ p → Ended false ≡ quoted_from quote escaped start (drop start message)
+    pub run_ends : length message ≤ p → Err (Ended false) ≡ quoted_from quote escaped start (drop start message)
     run_ends = ends at-end
 
     module _ (b : p < end) where
-      pub run-closes : get_or message p 0 ≡ quote → Closed (p - start) (record { 0 = p + 1 }) ≡ quoted_from quote escaped start (drop start message)
+      pub run-closes : get_or message p 0 ≡ quote → Ok (record { count = p - start; end = record { 0 = p + 1 } }) ≡ quoted_from quote escaped start (drop start message)
       run-closes = closes at-end (omega arith) refl
 
       pub run-opens : (get_or message p 0 ≡ quote → ⊥) → Looking escaped (p + 1) true

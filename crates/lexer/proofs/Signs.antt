@@ -7,12 +7,13 @@ use native.Mathlib.Omega.{arith}
 use lib.IntN.{neg_ℤ, pos}
 use lib.Dec.{leb}
 use borrow.Author.Tests.{lt-ltb, le-ltb, leb-true, leb-false}
+use Rattle.std.specs.Prelude.{Result, Ok, Err}
 use Rattle.format.specs.Bits.{to_bits}
 use Rattle.format.specs.Lex as L
 use Rattle.format.specs.Lex.{in_range}
 use Rattle.format.specs.declared.Offset.{Offset}
 use Rattle.lexer.specs.declared.integer.Digits.{Digits}
-use Rattle.lexer.specs.declared.integer.Integer.TheVariants.{Value, OutOfRange}
+use Rattle.lexer.specs.declared.integer.NoInteger.TheVariants.{OutOfRange}
 use Rattle.lexer.specs.Integer.{magnitude_cap, with_sign, ran_from}
 use Rattle.lexer.specs.Digits.{digit_run, signed_from}
 
@@ -36,24 +37,24 @@ unfolding to_bits
 minus_bits zero h n = absurd (n refl)
 minus_bits (suc v) h n = omega arith
 
-module _ {negative : Bool} {d : Digits} {v : ℕ} {end : Offset} (e : d ≡ Digits.Value v end) where
-  pub minus-large : negative ≡ true → largest < v → signed_from negative d ≡ OutOfRange
+module _ {negative : Bool} {d : Result Digits ℕ} {v : ℕ} {end : Offset} (e : d ≡ Ok (record { value = v; end = end })) where
+  pub minus-large : negative ≡ true → largest < v → signed_from negative d ≡ Err OutOfRange
   unfolding signed_from with_sign
   minus-large s h = rw (e, s, minus-over v h)
 
-  pub minus-zero : negative ≡ true → v ≡ 0 → signed_from negative d ≡ Value 0 end
+  pub minus-zero : negative ≡ true → v ≡ 0 → signed_from negative d ≡ Ok (record { bits = 0; end = end })
   unfolding signed_from with_sign in_range to_bits
   minus-zero s h = rw (e, s, h)
 
-  pub minus : negative ≡ true → v ≤ largest → (v ≡ 0 → ⊥) → signed_from negative d ≡ Value (((2 ^ 64 - 1) - v) + 1) end
+  pub minus : negative ≡ true → v ≤ largest → (v ≡ 0 → ⊥) → signed_from negative d ≡ Ok (record { bits = ((2 ^ 64 - 1) - v) + 1; end = end })
   unfolding signed_from with_sign
   minus s h n = rw (e, s, minus_range v h, minus_bits v h n)
 
-  pub large : negative ≡ false → largest ≤ v → signed_from negative d ≡ OutOfRange
+  pub large : negative ≡ false → largest ≤ v → signed_from negative d ≡ Err OutOfRange
   unfolding signed_from with_sign in_range
   large s h = rw (e, s, le-ltb _ _ h)
 
-  pub plain : negative ≡ false → v < largest → signed_from negative d ≡ Value v end
+  pub plain : negative ≡ false → v < largest → signed_from negative d ≡ Ok (record { bits = v; end = end })
   unfolding signed_from with_sign in_range to_bits
   plain s h = rw (e, s, lt-ltb _ _ h)
 

@@ -1,5 +1,5 @@
 -- An integer whose first bytes are read.
-use Rattle.std.specs.Prelude.{ℕ, ◌+◌, ◌*◌, ◌-◌, ◌^◌, min, Bool, true, false, cond, List, [], ◌∷◌, ℤ, pos, neg_ℤ}
+use Rattle.std.specs.Prelude.{ℕ, ◌+◌, ◌*◌, ◌-◌, ◌^◌, min, Bool, true, false, cond, List, [], ◌∷◌, ℤ, pos, neg_ℤ, Result, Ok, Err}
 use Prim.Native.Char.{code}
 use Rattle.format.specs.Bits.{to_bits}
 use Rattle.format.specs.Byte as B
@@ -9,7 +9,8 @@ use Rattle.format.specs.Lex.{in_range, digits}
 use Rattle.lexer.specs.declared.integer.Begun.{Begun}
 use Rattle.lexer.specs.declared.integer.Begun.TheVariants.{Minus, Digits}
 use Rattle.lexer.specs.declared.integer.Integer.{Integer}
-use Rattle.lexer.specs.declared.integer.Integer.TheVariants.{Value, OutOfRange, Stray, Ended}
+use Rattle.lexer.specs.declared.integer.NoInteger.{NoInteger}
+use Rattle.lexer.specs.declared.integer.NoInteger.TheVariants.{OutOfRange, Stray, Ended}
 
 -- one more than the largest magnitude: it stands for all above it
 abbrev pub magnitude_cap : ℕ
@@ -26,17 +27,17 @@ value_after v [] = v
 value_after v (c ∷ r) = value_after (v * 10 + (c - code "0")) r
 
 -- what digits from p on come to; at the slice's end they are worth `last`
-unfoldable pub ran_from : Bool → ℕ → ℕ → L.Digits → Integer
-ran_from negative p last L.unfinished = Ended (Digits negative (min last magnitude_cap))
+unfoldable pub ran_from : Bool → ℕ → ℕ → L.Digits → Result Integer NoInteger
+ran_from negative p last L.unfinished = Err (Ended (Digits negative (min last magnitude_cap)))
 ran_from negative p last (L.value v k) =
-    cond (in_range (with_sign negative v)) (Value (to_bits 64 (with_sign negative v)) (record { 0 = p + k })) OutOfRange
+    cond (in_range (with_sign negative v)) (Ok (record { bits = to_bits 64 (with_sign negative v); end = record { 0 = p + k } })) (Err OutOfRange)
 
 -- digits r after k bytes from p on, and after digits worth v
-unfoldable pub digits_after : Bool → ℕ → ℕ → ℕ → List ℕ → Integer
+unfoldable pub digits_after : Bool → ℕ → ℕ → ℕ → List ℕ → Result Integer NoInteger
 digits_after negative p k v r = ran_from negative p (value_after v r) (digits v k r)
 
 -- after a minus a digit has to come
-unfoldable pub integer_from : Begun → ℕ → List ℕ → Integer
+unfoldable pub integer_from : Begun → ℕ → List ℕ → Result Integer NoInteger
 integer_from (Digits negative v) p r = digits_after negative p 0 v r
-integer_from Minus p [] = Ended Minus
-integer_from Minus p (c ∷ r) = cond (has_class B.digit c) (digits_after true p 1 (c - code "0") r) (Stray (record { 0 = p }))
+integer_from Minus p [] = Err (Ended Minus)
+integer_from Minus p (c ∷ r) = cond (has_class B.digit c) (digits_after true p 1 (c - code "0") r) (Err (Stray (record { 0 = p })))

@@ -8,26 +8,32 @@ use format::{Offset, byte, class};
 
 // An integer of which the first bytes are read: a minus, or digits. Of digits, whether a minus stands before them, and their value,
 // which need not be exact past the largest magnitude.
-#[derive(Clone, Copy)]
+#[derive(Clone, Copy, Debug, PartialEq, Eq)]
 pub enum Begun {
     Minus,
     Digits(bool, u64),
 }
 
-// The 64 bits of its two's complement, with the place after it; out of range; a byte not allowed there; or the slice's end.
-#[derive(Clone, Copy)]
-pub enum Integer {
-    Value(u64, Offset),
+// An integer: the 64 bits of its two's complement, with the place after it.
+#[derive(Clone, Copy, Debug, PartialEq, Eq)]
+pub struct Integer {
+    pub bits: u64,
+    pub end: Offset,
+}
+
+// Why there is none: it is out of range, a byte is not allowed there, or the slice ended, with what is begun.
+#[derive(Clone, Copy, Debug, PartialEq, Eq)]
+pub enum NoInteger {
     OutOfRange,
     Stray(Offset),
     Ended(Begun),
 }
 
-// A run of digits: its value with the place after it, or the value at the slice's end.
-#[derive(Clone, Copy)]
-enum Digits {
-    Value(u64, Offset),
-    Ended(u64),
+// A run of digits: its value, with the place after it.
+#[derive(Clone, Copy, Debug, PartialEq, Eq)]
+struct Digits {
+    value: u64,
+    end: Offset,
 }
 
 // The largest magnitude, of the least integer, and one more, which stands for all above it.
@@ -60,79 +66,76 @@ fn shifted(v: u64, digit: u64) -> u64
     }
 }
 
-// Digits from `from` on, after digits worth `v`.
-fn read_digits(message: &[u8], from: Offset, v: u64) -> Digits
+// Digits from `from` on, after digits worth `v`; or what they are worth at the slice's end.
+fn read_digits(message: &[u8], from: Offset, v: u64) -> Result<Digits, u64>
     ensures { result ≡ digits_from v from.0 (drop from.0 message.now) }
 {
-    let mut i = from.0;
     let mut value = capped(v);
-    while i < message.len() {
+    for i in from.0..message.len() {
         let b = message[i];
-        let next = i + 1;
         if !class::is_digit(b) {
-            return Digits::Value(value, Offset(i));
+            let end = Offset(i);
+            return Ok(Digits { value, end });
         }
         value = shifted(value, (b - byte::ZERO) as u64);
-        i = next;
     }
-    Digits::Ended(value)
+    Err(value)
 }
 
 // The integer that digits come to.
-fn signed(digits: Digits, negative: bool) -> Integer
+fn signed(digits: Result<Digits, u64>, negative: bool) -> Result<Integer, NoInteger>
     ensures { result ≡ signed_from negative digits }
 {
     match digits {
-        Digits::Ended(v) => Integer::Ended(Begun::Digits(negative, v)),
-        Digits::Value(v, end) => {
+        Err(v) => Err(NoInteger::Ended(Begun::Digits(negative, v))),
+        Ok(Digits { value: v, end }) => {
             if negative {
                 if v > LARGEST {
-                    return Integer::OutOfRange;
+                    return Err(NoInteger::OutOfRange);
                 }
                 if v == 0 {
-                    return Integer::Value(0, end);
+                    return Ok(Integer { bits: 0, end });
                 }
-                return Integer::Value((18446744073709551615 - v) + 1, end);
+                let bits = (18446744073709551615 - v) + 1;
+                return Ok(Integer { bits, end });
             }
             if v >= LARGEST {
-                return Integer::OutOfRange;
+                return Err(NoInteger::OutOfRange);
             }
-            Integer::Value(v, end)
+            Ok(Integer { bits: v, end })
         }
     }
 }
 
 // Reads digits on from `from`, however many, after a sign and digits worth `v`.
-fn read_long(message: &[u8], from: Offset, negative: bool, v: u64) -> Integer
+fn read_long(message: &[u8], from: Offset, negative: bool, v: u64) -> Result<Integer, NoInteger>
     ensures { result ≡ integer_from (Begun.Digits negative v) from.0 (drop from.0 message.now) }
 {
     signed(read_digits(message, from, v), negative)
 }
 
 // Reads digits on from `from`, with no sign before them. While their value is small, no digit can bring it out of range.
-fn read_short(message: &[u8], from: Offset, v: u64) -> Integer
+fn read_short(message: &[u8], from: Offset, v: u64) -> Result<Integer, NoInteger>
     requires { v ≤ small }
     ensures { result ≡ integer_from (Begun.Digits false v) from.0 (drop from.0 message.now) }
 {
-    let mut i = from.0;
     let mut value = v;
-    while i < message.len() {
+    for i in from.0..message.len() {
         let b = message[i];
-        let next = i + 1;
         if !class::is_digit(b) {
-            return Integer::Value(value, Offset(i));
+            let end = Offset(i);
+            return Ok(Integer { bits: value, end });
         }
         value = value * 10 + ((b - byte::ZERO) as u64);
-        i = next;
         if SMALL < value {
-            return read_long(message, Offset(i), false, value);
+            return read_long(message, Offset(i + 1), false, value);
         }
     }
-    Integer::Ended(Begun::Digits(false, value))
+    Err(NoInteger::Ended(Begun::Digits(false, value)))
 }
 
 // Reads on from `from`, after digits that have no sign before them.
-fn read_natural(message: &[u8], from: Offset, v: u64) -> Integer
+fn read_natural(message: &[u8], from: Offset, v: u64) -> Result<Integer, NoInteger>
     ensures { result ≡ integer_from (Begun.Digits false v) from.0 (drop from.0 message.now) }
 {
     if SMALL < v {
@@ -142,7 +145,7 @@ fn read_natural(message: &[u8], from: Offset, v: u64) -> Integer
 }
 
 // Reads on from `from`; after a minus a digit has to come.
-pub fn read_integer(message: &[u8], from: Offset, begun: Begun) -> Integer
+pub fn read_integer(message: &[u8], from: Offset, begun: Begun) -> Result<Integer, NoInteger>
     ensures { result ≡ integer_from begun from.0 (drop from.0 message.now) }
 {
     match begun {
@@ -155,11 +158,11 @@ pub fn read_integer(message: &[u8], from: Offset, begun: Begun) -> Integer
         Begun::Minus => {
             let i = from.0;
             if message.len() <= i {
-                return Integer::Ended(Begun::Minus);
+                return Err(NoInteger::Ended(Begun::Minus));
             }
             let b = message[i];
             if !class::is_digit(b) {
-                return Integer::Stray(from);
+                return Err(NoInteger::Stray(from));
             }
             read_long(message, Offset(i + 1), true, (b - byte::ZERO) as u64)
         }

@@ -7,17 +7,27 @@ use format::{Offset, byte};
 // Bytes of a name that are looked at first.
 const NEAR: usize = 16;
 
-// How many bytes were read before the closing quote, with the place after it; a byte not allowed there; or the slice's end,
-// and whether a backslash is the last byte read.
-#[derive(Clone, Copy)]
-pub enum Quoted {
-    Closed(usize, Offset),
+// Closed text: how many bytes were read before its closing quote, with the place after it.
+#[derive(Clone, Copy, Debug, PartialEq, Eq)]
+pub struct Quoted {
+    pub count: usize,
+    pub end: Offset,
+}
+
+// Why none was found: a byte is not allowed there, or the slice ended, and whether a backslash is the last byte read.
+#[derive(Clone, Copy, Debug, PartialEq, Eq)]
+pub enum Unclosed {
     Stray(Offset),
     Ended(bool),
 }
 
 // Reads on from `from` to the closing quote; `escaped` says that the byte before is a backslash that escapes the next.
-pub fn read_quoted(message: &[u8], from: Offset, quote: u8, escaped: bool) -> Quoted
+pub fn read_quoted(
+    message: &[u8],
+    from: Offset,
+    quote: u8,
+    escaped: bool,
+) -> Result<Quoted, Unclosed>
     ensures { result ≡ quoted_from quote escaped from.0 (drop from.0 message.now) }
 {
     let start = from.0;
@@ -28,7 +38,7 @@ pub fn read_quoted(message: &[u8], from: Offset, quote: u8, escaped: bool) -> Qu
             let b = message[i];
             if b != byte::BACKSLASH {
                 if b != quote {
-                    return Quoted::Stray(Offset(i));
+                    return Err(Unclosed::Stray(Offset(i)));
                 }
             }
             open = false;
@@ -36,17 +46,18 @@ pub fn read_quoted(message: &[u8], from: Offset, quote: u8, escaped: bool) -> Qu
         } else {
             let p = scan::plain_end(message, i, message.len(), quote);
             if message.len() <= p {
-                return Quoted::Ended(false);
+                return Err(Unclosed::Ended(false));
             }
             let next = p + 1;
             if message[p] == quote {
-                return Quoted::Closed(p - start, Offset(next));
+                let (count, end) = (p - start, Offset(next));
+                return Ok(Quoted { count, end });
             }
             open = true;
             i = next;
         }
     }
-    Quoted::Ended(open)
+    Err(Unclosed::Ended(open))
 }
 
 // The end of the first bytes of a name, before n.
@@ -62,7 +73,7 @@ fn near(start: usize, n: usize) -> usize
 
 // The same as `read_quoted` from the opening quote on, for text that mostly is a short name: it is small enough for the compiler to put it into the caller's
 // loop, and leaves to `read_quoted` what the first bytes do not tell.
-pub fn read_name(message: &[u8], from: Offset, quote: u8) -> Quoted
+pub fn read_name(message: &[u8], from: Offset, quote: u8) -> Result<Quoted, Unclosed>
     ensures { result ≡ quoted_from quote false from.0 (drop from.0 message.now) }
 {
     let start = from.0;
@@ -71,7 +82,8 @@ pub fn read_name(message: &[u8], from: Offset, quote: u8) -> Quoted
         let p = scan::plain_end_by_blocks(message, start, end, quote);
         if p < end {
             if message[p] == quote {
-                return Quoted::Closed(p - start, Offset(p + 1));
+                let (count, end) = (p - start, Offset(p + 1));
+                return Ok(Quoted { count, end });
             }
         }
     }

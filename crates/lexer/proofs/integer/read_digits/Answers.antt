@@ -15,9 +15,6 @@ returns-then-not-is_digit c = laws.stops _ _ c.loop-i.invariant c.loop-i-test.tr
 pub overflow_sub-b : goal.overflow_sub-b
 overflow_sub-b c = omega (arith, digit_range _ (sym c.is_digit.ensures ∙ c.if-not-is_digit.false))
 
-pub overflow_cast-b : goal.overflow_cast-b
-overflow_cast-b c = omega (arith, digit_range _ (sym c.is_digit.ensures ∙ c.if-not-is_digit.false))
-
 pub shifted-value-requires : goal.shifted-value-requires
 shifted-value-requires c = omega (arith, digit_range _ (sym c.is_digit.ensures ∙ c.if-not-is_digit.false))
 

@@ -21,8 +21,8 @@ loop-i-preserved-then-open c =
 pub returns-then-message-p : goal.returns-then-message-p
 returns-then-message-p c = laws.run_ends _ _ _ c.loop-i.invariant c.if-open.false (omega arith) (omega arith) c.plain_end-p.ensures c.if-message-p.true
 
-pub overflow_sub-result : goal.overflow_sub-result
-overflow_sub-result c = omega (arith, not-before _ _ _ _ (omega arith) (omega arith) c.plain_end-p.ensures)
+pub overflow_sub-count : goal.overflow_sub-count
+overflow_sub-count c = omega (arith, not-before _ _ _ _ (omega arith) (omega arith) c.plain_end-p.ensures)
 
 pub returns-then-message-p-2 : goal.returns-then-message-p-2
 returns-then-message-p-2 c = laws.run-closes _ _ _ c.loop-i.invariant c.if-open.false (omega arith) (omega arith) c.plain_end-p.ensures c.if-message-p.false c.if-message-p-2.true
