@@ -11,19 +11,23 @@ use Rattle.format.specs.Bound.{stack_bound, mark_bound}
 use Rattle.format.specs.Machine.{Machine, refuse, go, bounded}
 use Rattle.format.specs.Rows.{Row, row_values, row_room, rows_of}
 use Rattle.format.specs.Answer.{Tables, limits_of, rows_in, tables}
+use Rattle.std.specs.Prelude.{Ok, Err}
+use Rattle.std.specs.declared.ops.ControlFlow.TheVariants.{Continue}
+use Rattle.format.specs.Number.{number_of}
 use Rattle.format.specs.declared.Offset.{Offset}
+use Rattle.format.specs.declared.refusal.Refusal.{Refusal}
+use Rattle.format.specs.declared.refusal.Refused.{Refused}
 use Rattle.table.specs.Words.{stored_rows, last_first}
 use Rattle.machine.specs.declared.state.State.{State}
-use Rattle.machine.specs.declared.state.Answer.TheVariants.{More, Refused}
 use Rattle.machine.specs.Held.{Ready, Turn, goes, stops, machine_of, turn, past, after, limited, with_row, made}
 use Rattle.format.proofs.TableRows.{length-rows}
 use Rattle.table.proofs.Rows.{pushed, length-last_first}
 use Rattle.table.proofs.Cleared.{stored-rows, stored_past, stored-length}
 
 -- a refusal, as the code answers it
-pub refusal : {x : Turn} (n : ℕ) (p : Offset) (t : Tables) → x ≡ stops n p.0 t → turn (Refused n p) t ≡ x
+pub refusal : {x : Turn} {k : Refusal} {p : Offset} {t : Tables} {r : Refused} → r ≡ record { refusal = k; place = p } → x ≡ stops (number_of k) p.0 t → turn (Err r) t ≡ x
 unfolding turn
-refusal n p t e = sym e
+refusal f e = rw f (sym e)
 
 module _ (t : Tables) (s : State) where
   -- an item's own refusal, whatever the limits
@@ -71,7 +75,7 @@ module _ (rows stack marks registers : List ℕ) (s : State) (below k : ℕ) (x 
   made_13 h g = no_stack (tables rows stack marks registers) s k 1 _ (omega arith) (omega (arith, length-last_first stack below))
 
   pub made-goes : Ready (tables rows stack marks registers) s → s.next.0 < row_room rows → below < min (length stack) stack_bound → (end : ℕ) → end ≡ suc s.at.0 + k
-      → turn (More (record { at = record { 0 = end }; next = record { 0 = s.next.0 + 1 }; depth = record { 0 = below + 1 }; marks = s.marks }))
+      → turn (Ok (Continue (record { at = record { 0 = end }; next = record { 0 = s.next.0 + 1 }; depth = record { 0 = below + 1 }; marks = s.marks })))
       (tables (stored_rows rows s.next.0 (x ∷ [])) (set stack below s.next.0) marks registers)
       ≡ made (tables rows stack marks registers) s below k x
   unfolding made with_row turn machine_of

@@ -1,15 +1,18 @@
 -- The machine at rows as state and tables hold it, and what comes of an item, seen in them.
-use Rattle.std.specs.Prelude.{ℕ, suc, ◌+◌, ◌*◌, ◌-◌, ◌≤◌, ◌<◌, min, ◌≡◌, cond, List, [], ◌∷◌, ◌++◌, length, get_or, take, drop, eqb}
+use Rattle.std.specs.Prelude.{ℕ, suc, ◌+◌, ◌*◌, ◌-◌, ◌≤◌, ◌<◌, min, ◌≡◌, cond, List, [], ◌∷◌, ◌++◌, length, get_or, take, drop, eqb, Result, Ok, Err}
 use Rattle.std.proofs.Math.Option.{Option, none, some}
+use Rattle.std.specs.declared.ops.ControlFlow.{ControlFlow}
+use Rattle.std.specs.declared.ops.ControlFlow.TheVariants.{Continue, Break}
+use Rattle.format.specs.declared.Row.{Row as RowNumber}
 use Rattle.format.specs.Bound.{stack_bound, mark_bound, register_words}
 use Rattle.format.specs.Lex.{Item}
+use Rattle.format.specs.Number.{number_of}
+use Rattle.format.specs.declared.refusal.Refused.{Refused}
 use Rattle.format.specs.Machine.{Machine, Step, refuse, go, finish, bounded, step}
 use Rattle.format.specs.Rows.{Row, row_words, row_values, rows_of, row_room, span_row}
 use Rattle.format.specs.Answer.{Tables, tables, limits_of, rows_in}
 use Rattle.table.specs.Words.{last_first}
 use Rattle.machine.specs.declared.state.State.{State}
-use Rattle.machine.specs.declared.state.Answer.{Answer}
-use Rattle.machine.specs.declared.state.Answer.TheVariants.{More, Done, Refused}
 
 -- a register's word: 0 for empty, row + 1 otherwise
 unfoldable pub register_in : List ℕ → ℕ → Option ℕ
@@ -44,10 +47,10 @@ pub data Turn : Type 0 where
   stops : ℕ → ℕ → Tables → Turn
 
 -- as an item answers it, with the tables that it leaves
-unfoldable pub turn : Answer → Tables → Turn
-turn (More s) t = goes s.at.0 s.next.0 (last_first t.stack s.depth.0) (last_first t.marks s.marks) (register_in t.registers) (rows_in t.rows (rows_of s.next.0 t.rows)) (past t s.next.0 s.depth.0 s.marks)
-turn (Done root) t = ends root.0 t
-turn (Refused number place) t = stops number place.0 t
+unfoldable pub turn : Result (ControlFlow RowNumber State) Refused → Tables → Turn
+turn (Ok (Continue s)) t = goes s.at.0 s.next.0 (last_first t.stack s.depth.0) (last_first t.marks s.marks) (register_in t.registers) (rows_in t.rows (rows_of s.next.0 t.rows)) (past t s.next.0 s.depth.0 s.marks)
+turn (Ok (Break root)) t = ends root.0 t
+turn (Err r) t = stops (number_of r.refusal) r.place.0 t
 
 -- as the machine's step gives it, with the rows in the words of the table; nothing past them changes, nor anything where the item stops or ends
 unfoldable pub after : Tables → State → Step row_values → Turn

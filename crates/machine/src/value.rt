@@ -6,7 +6,9 @@ ghost use Rattle.machine.specs.Held.{Ready, turn, made};
 
 use crate::state;
 use crate::state::{Answer, State};
-use format::{Depth, Offset, Row, bound, refusal};
+use format::refusal::Refusal;
+use format::{Depth, Offset, Row, bound};
+use std::ops::ControlFlow;
 use table::RowWords;
 
 // One row more: its number goes on the stack over the values below `below`, and the item ends at `end`.
@@ -25,17 +27,17 @@ pub fn push_value(
     let n = next.0;
     let i = below.0;
     if table::row_room(rows) <= n as usize {
-        return Answer::Refused(refusal::NO_ROWS, at);
+        return Err(state::refused_at(at, Refusal::NoRows));
     }
     if state::room(stack.len(), bound::STACK) <= i {
-        return Answer::Refused(refusal::NO_STACK, at);
+        return Err(state::refused_at(at, Refusal::NoStack));
     }
     table::store_row(rows, next, words);
     stack[i] = n;
-    Answer::More(State {
+    Ok(ControlFlow::Continue(State {
         at: end,
         next: Row(n + 1),
         depth: Depth(i + 1),
         marks: s.marks,
-    })
+    }))
 }

@@ -5,10 +5,10 @@ use Rattle.machine.proofs.Limits.{refusal, made_12, made_13, made-goes}
 use Rattle.machine.proofs.value.push_value.Goals as goal
 
 pub returns-then-row_room-n : goal.returns-then-row_room-n
-returns-then-row_room-n c mk rg k h l e = refusal _ _ _ (made_12 _ _ mk rg _ _ k _ (rw c.row_room.ensures at c.if-row_room-n.true))
+returns-then-row_room-n c mk rg k h l e = refusal c.refused_at.ensures (made_12 _ _ mk rg _ _ k _ (rw c.row_room.ensures at c.if-row_room-n.true))
 
 pub returns-then-room-i : goal.returns-then-room-i
-returns-then-room-i c mk rg k h l e = refusal _ _ _ (made_13 _ _ mk rg _ _ k _ (rw c.row_room.ensures at c.if-row_room-n.false) (rw c.room.ensures at c.if-room-i.true))
+returns-then-room-i c mk rg k h l e = refusal c.refused_at-then-room-i.ensures (made_13 _ _ mk rg _ _ k _ (rw c.row_room.ensures at c.if-row_room-n.false) (rw c.room.ensures at c.if-room-i.true))
 
 pub store_row-requires : goal.store_row-requires
 store_row-requires c = (rw c.row_room.ensures at c.if-row_room-n.false)
