@@ -11,10 +11,12 @@ use Rattle.format.specs.Bound.{stack_bound, mark_bound}
 use Rattle.format.specs.Machine.{Machine, refuse, go, bounded}
 use Rattle.format.specs.Rows.{Row, row_values, row_room, rows_of}
 use Rattle.format.specs.Answer.{Tables, limits_of, rows_in, tables}
-use Rattle.std.specs.Prelude.{Ok, Err}
+use Rattle.std.specs.Prelude.{Result, Ok, Err, IsErrAnd}
+use Rattle.std.specs.declared.ops.ControlFlow.{ControlFlow}
 use Rattle.std.specs.declared.ops.ControlFlow.TheVariants.{Continue}
 use Rattle.format.specs.Number.{number_of}
 use Rattle.format.specs.declared.Offset.{Offset}
+use Rattle.format.specs.declared.Row.{Row as RowNumber}
 use Rattle.format.specs.declared.refusal.Refusal.{Refusal}
 use Rattle.format.specs.declared.refusal.Refused.{Refused}
 use Rattle.table.specs.Words.{stored_rows, last_first}
@@ -28,6 +30,12 @@ use Rattle.table.proofs.Cleared.{stored-rows, stored_past, stored-length}
 pub refusal : {x : Turn} {k : Refusal} {p : Offset} {t : Tables} {r : Refused} → r ≡ record { refusal = k; place = p } → x ≡ stops (number_of k) p.0 t → turn (Err r) t ≡ x
 unfolding turn
 refusal f e = rw f (sym e)
+
+-- one that `?` passes up
+pub passed_up : {x : Turn} {k : Refusal} {p : Offset} {t : Tables} {e : Refused} (r : Result (ControlFlow RowNumber State) Refused) → IsErrAnd r (λ y. y ≡ e)
+    → e ≡ record { refusal = k; place = p } → x ≡ stops (number_of k) p.0 t → turn r t ≡ x
+passed_up (Ok y) h f e = absurd h
+passed_up (Err y) h f e = rw h (refusal f e)
 
 module _ (t : Tables) (s : State) where
   -- an item's own refusal, whatever the limits

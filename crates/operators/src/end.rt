@@ -4,9 +4,10 @@ ghost use Rattle.format.specs.Answer.{tables};
 ghost use Rattle.format.specs.Lex.{end_item};
 ghost use Rattle.machine.specs.Held.{turn, taken};
 
-use format::refusal;
+use format::refusal::Refusal;
 use machine::state;
-use machine::state::{Answer, State};
+use machine::state::{Answer, State, refused_at};
+use std::ops::ControlFlow;
 
 // `$`: the one value, with no mark noted.
 pub fn end_item(stack: &[u32], s: State) -> Answer
@@ -16,10 +17,10 @@ pub fn end_item(stack: &[u32], s: State) -> Answer
     let at = s.at;
     let depth = s.depth;
     if s.marks != 0 {
-        return Answer::Refused(refusal::UNBALANCED, at);
+        return Err(refused_at(at, Refusal::Unbalanced));
     }
     if depth.0 != 1 {
-        return Answer::Refused(refusal::DEPTH, at);
+        return Err(refused_at(at, Refusal::DepthNotOne));
     }
-    Answer::Done(state::top(stack, depth))
+    Ok(ControlFlow::Break(state::top(stack, depth)))
 }

@@ -7,8 +7,9 @@ ghost use Rattle.table.specs.Words.{row_in};
 ghost use Rattle.format.specs.Answer.{tables};
 ghost use Rattle.machine.specs.Held.{Ready, turn, taken};
 
-use format::{Depth, Offset, Row, kind, refusal};
-use machine::state::{Answer, State};
+use format::refusal::Refusal;
+use format::{Depth, Offset, Row, kind};
+use machine::state::{Answer, State, refused_at};
 use machine::{state, value};
 use table::RowWords;
 
@@ -55,13 +56,10 @@ pub fn cons_item(rows: &mut [u32], stack: &mut [u32], marks: &[u32], s: State) -
     let at = s.at;
     let p = at.0;
     let depth = s.depth;
-    let base = state::base(marks, s.marks);
-    if depth.0 <= base.0 + 1 {
-        return Answer::Refused(refusal::TOO_FEW, at);
-    }
+    state::need_values(marks, s, 2)?;
     let list = state::top(stack, Depth(depth.0 - 1));
     if !is_list(rows, list) {
-        return Answer::Refused(refusal::WRONG_KIND, at);
+        return Err(refused_at(at, Refusal::WrongKind));
     }
     // loaded alone: a load of both words at once would wait for the two stores that made them
     let item = state::top(stack, depth);

@@ -5,11 +5,13 @@ ghost use Rattle.format.specs.Lex.{push_item, store};
 ghost use Rattle.format.specs.Answer.{tables};
 ghost use Rattle.machine.specs.Held.{Ready, turn, taken};
 
-use format::{Depth, Offset, bound, refusal};
+use format::refusal::Refusal;
+use format::{Depth, Offset, bound};
 use lexer::register;
-use lexer::register::Register;
+use lexer::register::{NoRegister, Register};
 use machine::state;
-use machine::state::{Answer, State};
+use machine::state::{Answer, State, refused_at};
+use std::ops::ControlFlow;
 
 // `>` and a register: pops into it.
 pub fn store_item(
@@ -30,26 +32,21 @@ pub fn store_item(
     let next = s.next;
     let depth = s.depth;
     let noted = s.marks;
-    let q = register::read_register(message, Offset(at.0 + 1));
-    let Register::Named(b, end) = q else {
-        let Register::Stray(p) = q else {
-            return Answer::Refused(refusal::CUT, Offset(message.len()));
-        };
-        return Answer::Refused(refusal::STRAY, p);
+    let Register { name, end } = match register::read_register(message, Offset(at.0 + 1)) {
+        Ok(register) => register,
+        Err(NoRegister::Stray(p)) => return Err(refused_at(p, Refusal::Stray)),
+        Err(NoRegister::Ended) => return Err(refused_at(Offset(message.len()), Refusal::Cut)),
     };
-    let base = state::base(marks, noted);
-    if depth.0 <= base.0 {
-        return Answer::Refused(refusal::TOO_FEW, at);
-    }
+    state::need_values(marks, s, 1)?;
     let v = state::top(stack, depth);
-    let i = b as usize;
+    let i = name as usize;
     registers[i] = v.0 + 1;
-    Answer::More(State {
+    Ok(ControlFlow::Continue(State {
         at: end,
         next,
         depth: Depth(depth.0 - 1),
         marks: noted,
-    })
+    }))
 }
 
 // A register's byte: pushes what it holds.
@@ -65,16 +62,16 @@ pub fn push_item(stack: &mut [u32], registers: &[u32], s: State, b: u8) -> Answe
     let j = b as usize;
     let held = registers[j];
     if held == 0 {
-        return Answer::Refused(refusal::EMPTY_REGISTER, at);
+        return Err(refused_at(at, Refusal::EmptyRegister));
     }
     if state::room(stack.len(), bound::STACK) <= i {
-        return Answer::Refused(refusal::NO_STACK, at);
+        return Err(refused_at(at, Refusal::NoStack));
     }
     stack[i] = held - 1;
-    Answer::More(State {
+    Ok(ControlFlow::Continue(State {
         at: Offset(p + 1),
         next,
         depth: Depth(i + 1),
         marks: s.marks,
-    })
+    }))
 }

@@ -5,9 +5,11 @@ ghost use Rattle.format.specs.Lex.{open_item, close_item};
 ghost use Rattle.format.specs.Answer.{tables};
 ghost use Rattle.machine.specs.Held.{Ready, turn, taken};
 
-use format::{Depth, Offset, Row, bound, refusal};
+use format::refusal::Refusal;
+use format::{Depth, Offset, Row, bound};
 use machine::state;
-use machine::state::{Answer, State};
+use machine::state::{Answer, State, refused_at};
+use std::ops::ControlFlow;
 
 // `{`: notes the depth.
 pub fn open_item(marks: &mut [u32], s: State) -> Answer
@@ -23,15 +25,15 @@ pub fn open_item(marks: &mut [u32], s: State) -> Answer
     let noted = s.marks;
     let i = noted as usize;
     if state::room(marks.len(), bound::MARKS) <= i {
-        return Answer::Refused(refusal::NO_MARKS, at);
+        return Err(refused_at(at, Refusal::NoMarks));
     }
     marks[i] = d as u32;
-    Answer::More(State {
+    Ok(ControlFlow::Continue(State {
         at: Offset(p + 1),
         next,
         depth,
         marks: noted + 1,
-    })
+    }))
 }
 
 // `}`: a tuple of all values above the mark.
@@ -47,27 +49,27 @@ pub fn close_item(rows: &mut [u32], stack: &mut [u32], marks: &[u32], s: State) 
     let depth = s.depth;
     let noted = s.marks;
     if noted == 0 {
-        return Answer::Refused(refusal::UNBALANCED, at);
+        return Err(refused_at(at, Refusal::Unbalanced));
     }
     let base = state::base(marks, noted);
     let low = base.0;
     if depth.0 < low {
-        return Answer::Refused(refusal::UNDER_MARK, at);
+        return Err(refused_at(at, Refusal::UnderMark));
     }
     let fields = depth.0 - low;
     if table::row_room(rows) <= (next.0 as usize) + fields {
-        return Answer::Refused(refusal::NO_ROWS, at);
+        return Err(refused_at(at, Refusal::NoRows));
     }
     if state::room(stack.len(), bound::STACK) <= low {
-        return Answer::Refused(refusal::NO_STACK, at);
+        return Err(refused_at(at, Refusal::NoStack));
     }
     let last = next.0 + (fields as u32);
     table::store_tuple(rows, stack, base, depth, next);
     stack[low] = last;
-    Answer::More(State {
+    Ok(ControlFlow::Continue(State {
         at: Offset(p + 1),
         next: Row(last + 1),
         depth: Depth(low + 1),
         marks: noted - 1,
-    })
+    }))
 }

@@ -7,6 +7,7 @@ ghost use Rattle.machine.specs.Held.{Ready, turn, taken};
 
 use format::Offset;
 use machine::state::{Answer, State};
+use std::ops::ControlFlow;
 
 // White space: nothing but the place changes.
 pub fn white_item(s: State) -> Answer
@@ -15,10 +16,10 @@ pub fn white_item(s: State) -> Answer
 {
     let next = s.next;
     let depth = s.depth;
-    Answer::More(State {
+    Ok(ControlFlow::Continue(State {
         at: Offset(s.at.0 + 1),
         next,
         depth,
         marks: s.marks,
-    })
+    }))
 }

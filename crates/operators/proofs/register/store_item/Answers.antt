@@ -1,25 +1,22 @@
 -- `operators::register::store_item` meets its contract: a register takes a value above the base, and anything else is refused.
 use mathlib.Core.Path.{sym, ◌∙◌}
 use native.Mathlib.Omega.{arith}
-use borrow.Enum.Refused.{opened}
-use Rattle.machine.specs.Held.{turn}
+use Rattle.machine.proofs.Limits.{refusal, passed_up}
 use Rattle.machine.proofs.Passes.{rest-ends}
-use Rattle.operators.proofs.Registers.{only_ended}
 use Rattle.operators.proofs.Registers as laws
 use Rattle.operators.proofs.register.store_item.Goals as goal
 
-pub returns-in_default-q : goal.returns-in_default-q
-returns-in_default-q c rows _ = laws.store-cut rows _ _ _ _ _ _ (rest-ends _ _ (omega arith)) (sym c.read_register-q.ensures ∙ only_ended _ (opened c.in_default.in_default-own.keys2) (opened c.in_default-q.in_default-q-own.keys2))
+pub returns-in-Err-Stray : goal.returns-in-Err-Stray
+returns-in-Err-Stray c rows _ = refusal (rw c.in-Err-Stray.p-is at c.refused_at.ensures) (laws.store-stray rows _ _ _ _ _ _ (rw c.in-Err-Stray.field-0-is at (sym c.read_register.ensures ∙ c.in-Err-Stray.is)))
 
-pub returns-in_default : goal.returns-in_default
-returns-in_default c rows _ = laws.store-stray rows _ _ _ _ _ _ (sym c.read_register-q.ensures ∙ c.in-Stray.is)
+pub returns-in-Err-Ended : goal.returns-in-Err-Ended
+returns-in-Err-Ended c rows _ = refusal c.refused_at-in-Err-Ended.ensures (laws.store-cut rows _ _ _ _ _ _ (rest-ends _ _ (omega arith)) (rw c.in-Err-Ended.field-0-is at (sym c.read_register.ensures ∙ c.in-Err-Ended.is)))
 
-pub returns-then-depth-base : goal.returns-then-depth-base
-unfolding turn
-returns-then-depth-base c rows _ = sym (laws.store-few rows _ _ _ _ _ _ _ (sym c.read_register-q.ensures ∙ c.in-Named.is) (rw c.base-base.ensures at c.if-depth-base.true))
+pub returns-in_err-need_values : goal.returns-in_err-need_values
+returns-in_err-need_values c rows _ = passed_up _ c.from_residual.ensures.1 c.in_err-need_values.ensures.1 (laws.store-few rows _ _ _ _ _ _ _ (sym c.read_register.ensures ∙ c.in-Ok.is) (omega (arith, c.in_err-need_values.ensures.0)))
 
 pub overflow_add-registers : goal.overflow_add-registers
-overflow_add-registers c = omega (arith, c.requires.depth_bound (omega arith), c.top-v.ensures)
+overflow_add-registers c = omega (arith, c.requires.depth_bound (omega (arith, c.in_ok-need_values.ensures)), c.top-v.ensures)
 
 pub returns : goal.returns
-returns c rows h = laws.store_goes rows _ _ _ _ _ _ _ (sym c.read_register-q.ensures ∙ c.in-Named.is) h (omega arith) (rw c.base-base.ensures at c.if-depth-base.false) _ c.top-v.ensures
+returns c rows h = laws.store_goes rows _ _ _ _ _ _ _ (sym c.read_register.ensures ∙ c.in-Ok.is) h (omega (arith, rw c.in-Ok.is at c.read_register.type_inv)) (omega (arith, c.in_ok-need_values.ensures)) _ c.top-v.ensures

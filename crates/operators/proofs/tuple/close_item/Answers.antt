@@ -7,16 +7,16 @@ use Rattle.operators.proofs.Tuples.{close_10, close_17, close_12, close_13, clos
 use Rattle.operators.proofs.tuple.close_item.Goals as goal
 
 pub returns-then-noted-eq0 : goal.returns-then-noted-eq0
-returns-then-noted-eq0 c rg r h = refusal _ _ _ (close_10 _ _ _ rg _ r c.if-noted-eq0.true)
+returns-then-noted-eq0 c rg r h = refusal c.refused_at.ensures (close_10 _ _ _ rg _ r c.if-noted-eq0.true)
 
 pub returns-then-depth-low : goal.returns-then-depth-low
-returns-then-depth-low c rg r h = refusal _ _ _ (close_17 _ _ _ rg _ r _ ((omega (arith, c.if-noted-eq0.false))) c.base-base.ensures c.if-depth-low.true)
+returns-then-depth-low c rg r h = refusal c.refused_at-then-depth-low.ensures (close_17 _ _ _ rg _ r _ ((omega (arith, c.if-noted-eq0.false))) c.base-base.ensures c.if-depth-low.true)
 
 pub returns-then-row_room-next : goal.returns-then-row_room-next
-returns-then-row_room-next c rg r h = refusal _ _ _ (close_12 _ _ _ rg _ r _ ((omega (arith, c.if-noted-eq0.false))) c.base-base.ensures c.if-depth-low.false (rw c.row_room.ensures at c.if-row_room-next.true))
+returns-then-row_room-next c rg r h = refusal c.refused_at-then-row_room-next.ensures (close_12 _ _ _ rg _ r _ ((omega (arith, c.if-noted-eq0.false))) c.base-base.ensures c.if-depth-low.false (rw c.row_room.ensures at c.if-row_room-next.true))
 
 pub returns-then-room-low : goal.returns-then-room-low
-returns-then-room-low c rg r h = refusal _ _ _ (close_13 _ _ _ rg _ r _ ((omega (arith, c.if-noted-eq0.false))) c.base-base.ensures c.if-depth-low.false (rw c.row_room.ensures at c.if-row_room-next.false) (rw c.room.ensures at c.if-room-low.true))
+returns-then-room-low c rg r h = refusal c.refused_at-then-room-low.ensures (close_13 _ _ _ rg _ r _ ((omega (arith, c.if-noted-eq0.false))) c.base-base.ensures c.if-depth-low.false (rw c.row_room.ensures at c.if-row_room-next.false) (rw c.room.ensures at c.if-room-low.true))
 
 pub overflow_cast-last : goal.overflow_cast-last
 unfolding row_room
