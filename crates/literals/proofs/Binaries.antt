@@ -10,6 +10,10 @@ use lib.IntN.{ℤ, pos, negsuc}
 use lib.ListN.{length, get_or, take, drop, length-drop}
 use lib.Seq.{length-take-le, get_or-drop}
 use borrow.Author.Tests.{lt-ltb, le-ltb, le-leb, lt-leb, eq-eqb, ne_eqb}
+use Rattle.std.specs.Prelude.{Ok, Err}
+use Rattle.format.specs.Number.{number_of}
+use Rattle.format.specs.declared.refusal.Refusal.{Refusal}
+use Rattle.format.specs.declared.refusal.Refusal.TheVariants.{WrongKind, Negative}
 use Rattle.format.specs.Bits.{from_bits}
 use Rattle.format.specs.Lex.{tilde_item}
 use Rattle.format.specs.Machine as M
@@ -17,7 +21,6 @@ use Rattle.format.specs.Machine.{base, step}
 use Rattle.format.specs.Rows.{Row, row, row_values, row_integer, integer_of_row, make_rows, add, integer_kind, binary_kind, span_row}
 use Rattle.format.specs.Answer.{Tables, tables}
 use Rattle.table.specs.Words.{row_in, last_first}
-use Rattle.literals.specs.declared.binary.Count.TheVariants.{Of, NoInteger, Negative}
 use Rattle.machine.specs.declared.state.State.{State}
 use Rattle.machine.specs.Held.{Ready, Turn, stops, machine_of, limited, taken, with_row, made}
 use Rattle.literals.specs.Readers.{count_as}
@@ -26,33 +29,21 @@ use Rattle.machine.proofs.Pops.{pop-few, pop-top, held-row}
 
 -- the count that a row is
 module _ (x : Row) where
-  pub is_no_count : ¬ (x.kind ≡ integer_kind) → NoInteger ≡ count_as (row_integer x)
+  pub is_no_count : ¬ (x.kind ≡ integer_kind) → Err WrongKind ≡ count_as (row_integer x)
   unfolding row_integer count_as
   is_no_count h = rw (ne_eqb x.kind integer_kind h) refl
 
   module _ (k : x.kind ≡ integer_kind) (low : x.second < 2 ^ 32) where
-    pub is_negative : 2 ^ 31 ≤ x.first → Negative ≡ count_as (row_integer x)
+    pub is_negative : 2 ^ 31 ≤ x.first → Err Negative ≡ count_as (row_integer x)
     unfolding row_integer integer_of_row from_bits count_as
     is_negative h = rw (eq-eqb x.kind integer_kind k, le-ltb (x.first * 2 ^ 32 + x.second) (2 ^ 63) (omega arith)) refl
 
-    pub is-count : x.first < 2 ^ 31 → Of (x.first * 2 ^ 32 + x.second) ≡ count_as (row_integer x)
+    pub is-count : x.first < 2 ^ 31 → Ok (x.first * 2 ^ 32 + x.second) ≡ count_as (row_integer x)
     unfolding row_integer integer_of_row from_bits count_as
     is-count h = rw (eq-eqb x.kind integer_kind k, lt-ltb (x.first * 2 ^ 32 + x.second) (2 ^ 63) (omega arith)) refl
 
 -- what a count tells of a row's integer
-count_none : (o : Option ℤ) → count_as o ≡ NoInteger → o ≡ none
-unfolding count_as
-count_none none e = refl
-count_none (some (negsuc n)) e = cc
-count_none (some (pos n)) e = cc
-
-count-negative : (o : Option ℤ) → count_as o ≡ Negative → (n : ℕ) × (o ≡ some (negsuc n))
-unfolding count_as
-count-negative none e = let z : ◌≡◌ {A = ℕ} 0 1 = cc in absurd (omega arith)
-count-negative (some (negsuc n)) e = (n, refl)
-count-negative (some (pos n)) e = let z : ◌≡◌ {A = ℕ} 0 1 = cc in absurd (omega arith)
-
-count_of : (o : Option ℤ) (n : ℕ) → count_as o ≡ Of n → o ≡ some (pos n)
+count_of : (o : Option ℤ) (n : ℕ) → count_as o ≡ Ok n → o ≡ some (pos n)
 unfolding count_as
 count_of none n e = cc
 count_of (some (negsuc k)) n e = cc
@@ -70,15 +61,23 @@ module _ (rows stack marks registers : List ℕ) (s : State) (r : List ℕ) wher
     unfolding taken step machine_of
     binary-popped = rw (pop-top s.at.0 (last_first marks s.marks) stack _ s.depth.0 g, ← e, held-row (tables rows stack marks registers) s h (s.depth.0 - 1) (omega arith) v e) refl
 
-    pub binary_7 : count_as (row_integer (row_in rows v)) ≡ NoInteger → taken (tables rows stack marks registers) s r tilde_item ≡ stops 7 s.at.0 (tables rows stack marks registers)
-    unfolding M.take_binary
-    binary_7 q = binary-popped ∙ rw (count_none (row_integer (row_in rows v)) q) (refused-step (tables rows stack marks registers) s 7 s.at.0)
+    -- with no count, the refusal that tells why
+    pub binary-no_count : (k : Refusal) → count_as (row_integer (row_in rows v)) ≡ Err k → taken (tables rows stack marks registers) s r tilde_item ≡ stops (number_of k) s.at.0 (tables rows stack marks registers)
+    unfolding M.take_binary count_as
+    binary-no_count k q = binary-popped ∙ by (row_integer (row_in rows v)) k q
+      where
+        by : (o : Option ℤ) (k : Refusal) → count_as o ≡ Err k
+            → limited (tables rows stack marks registers) s (M.take_binary row_values s.at.0 r (machine_of (tables rows stack marks registers) s) (last_first stack (s.depth.0 - 1)) o)
+            ≡ stops (number_of k) s.at.0 (tables rows stack marks registers)
+        by none k e =
+            let same : WrongKind ≡ k = cc in
+            rw (← same) (refused-step (tables rows stack marks registers) s 7 s.at.0)
+        by (some (negsuc n)) k e =
+            let same : Negative ≡ k = cc in
+            rw (← same) (refused-step (tables rows stack marks registers) s 8 s.at.0)
+        by (some (pos n)) k e = cc
 
-    pub binary_8 : count_as (row_integer (row_in rows v)) ≡ Negative → taken (tables rows stack marks registers) s r tilde_item ≡ stops 8 s.at.0 (tables rows stack marks registers)
-    unfolding M.take_binary
-    binary_8 q = binary-popped ∙ rw (count-negative (row_integer (row_in rows v)) q).1 (refused-step (tables rows stack marks registers) s 8 s.at.0)
-
-    pub binary_of : (n : ℕ) → count_as (row_integer (row_in rows v)) ≡ Of n → taken (tables rows stack marks registers) s r tilde_item
+    pub binary_of : (n : ℕ) → count_as (row_integer (row_in rows v)) ≡ Ok n → taken (tables rows stack marks registers) s r tilde_item
         ≡ limited (tables rows stack marks registers) s (M.take_binary row_values s.at.0 r (machine_of (tables rows stack marks registers) s) (last_first stack (s.depth.0 - 1)) (some (pos n)))
     binary_of n q = rw (← count_of (row_integer (row_in rows v)) n q) binary-popped
 

@@ -2,5 +2,3 @@
 pub mod Spans
 pub mod Integers
 pub mod Binaries
--- what a reader's answer tells where the code takes it no further apart
-pub mod Answered

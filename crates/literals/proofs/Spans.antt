@@ -6,8 +6,10 @@ use mathlib.Core.List.{List}
 use mathlib.Core.Bool.{false}
 use native.Mathlib.Numerals.{add-one}
 use native.Mathlib.Omega.{arith}
-use lib.ListN.{length, get_or, take}
+use lib.ListN.{length, get_or, take, drop, length-drop}
 use lib.Seq.{length-take-le}
+use Rattle.std.specs.Prelude.{Ok, Err}
+use Rattle.std.specs.declared.ops.ControlFlow.TheVariants.{Continue}
 use Rattle.format.specs.Lex as L
 use Rattle.format.specs.Lex.{Item, Scan, scan, quoted, quoted_item, atom_item, string_item, tag_item, comment_item}
 use Rattle.format.specs.Machine as M
@@ -19,9 +21,8 @@ use Rattle.format.proofs.Items.{ItemOk, quoted-ok}
 use Rattle.table.specs.Words.{last_first}
 use Rattle.lexer.specs.Quoted.{escaped_after, scanned, quoted_from}
 use Rattle.lexer.specs.declared.quoted.Quoted.{Quoted}
-use Rattle.lexer.specs.declared.quoted.Quoted.TheVariants.{Closed}
+use Rattle.lexer.specs.declared.quoted.Unclosed.{Unclosed}
 use Rattle.machine.specs.declared.state.State.{State}
-use Rattle.machine.specs.declared.state.Answer.TheVariants.{More}
 use Rattle.machine.specs.Held.{Ready, Spans, stops, machine_of, turn, limited, taken, with_row, made}
 use Rattle.literals.specs.Readers.{unclosed_as}
 use Rattle.machine.proofs.Limits.{refused-step}
@@ -39,42 +40,48 @@ strings at r m k = refl
 
 module _ (quote at : ℕ) (r : List ℕ) where
   -- what the reader answers tells what the look for the quote found
-  pub closed : (n : ℕ) (end : Offset) → quoted_from quote false (at + 1) r ≡ Closed n end → (scan quote false 0 r ≡ L.closed_at n) × (end.0 ≡ suc at + suc n)
+  pub closed : (n : ℕ) (end : Offset) → quoted_from quote false (at + 1) r ≡ Ok (record { count = n; end = end }) → (scan quote false 0 r ≡ L.closed_at n) × (end.0 ≡ suc at + suc n)
   unfolding quoted_from scanned
   closed n end e = by (scan quote false 0 r) e
     where
-      by : (x : Scan) → scanned (at + 1) (escaped_after false r) x ≡ Closed n end → (x ≡ L.closed_at n) × (end.0 ≡ suc at + suc n)
-      by L.ended f = let z : ◌≡◌ {A = ℕ} 0 1 = cc in absurd (omega arith)
-      by (L.stray_at k) f = let z : ◌≡◌ {A = ℕ} 0 1 = cc in absurd (omega arith)
+      by : (x : Scan) → scanned (at + 1) (escaped_after false r) x ≡ Ok (record { count = n; end = end }) → (x ≡ L.closed_at n) × (end.0 ≡ suc at + suc n)
+      by L.ended f = cc
+      by (L.stray_at k) f = cc
       by (L.closed_at k) f =
-          let same : k ≡ n = cc in
-          let past : ◌≡◌ {A = Offset} (record { 0 = suc (at + 1 + k) }) end = cc in
-          (ap L.closed_at same, omega (arith, ap (λ (o : Offset). o.0) past))
+          let same : ◌≡◌ {A = Quoted} (record { count = k; end = record { 0 = suc (at + 1 + k) } }) (record { count = n; end = end }) = cc in
+          (ap (λ (x : Quoted). L.closed_at x.count) same, omega (arith, ap (λ (x : Quoted). x.count) same, ap (λ (x : Quoted). x.end.0) same))
 
   -- the quote lies in the slice
   inside : (n : ℕ) → scan quote false 0 r ≡ L.closed_at n → n < length r
   unfolding quoted quoted_item
   inside n e = subst (ItemOk r) (ap (quoted_item comment_item) e) (quoted-ok quote comment_item r (λ k m. m.inside))
 
-  pub closed-inside : (n : ℕ) (end : Offset) → quoted_from quote false (at + 1) r ≡ Closed n end → n < length r
+  closed-inside : (n : ℕ) (end : Offset) → quoted_from quote false (at + 1) r ≡ Ok (record { count = n; end = end }) → n < length r
   closed-inside n end e = inside n (closed n end e).0
+
+-- closed text is shorter than the slice
+pub shorter : (quote at : ℕ) (message : List ℕ) (n : ℕ) (end : Offset) → quoted_from quote false (at + 1) (drop (at + 1) message) ≡ Ok (record { count = n; end = end }) → n < length message
+shorter quote at message n end e = omega (arith, closed-inside quote at (drop (at + 1) message) n end e, length-drop (at + 1) message)
 
 -- the refusal of text that is not closed
 module _ (quote : ℕ) (t : Tables) (s : State) (r : List ℕ) (item : ℕ → Item) (ended : Offset) (last : ended.0 ≡ suc s.at.0 + length r) where
-  pub unclosed : (q : Quoted) → q ≡ quoted_from quote false (s.at.0 + 1) r → ((n : ℕ) (end : Offset) → ¬ (q ≡ Closed n end)) → turn (unclosed_as q ended) t ≡ taken t s r (quoted quote item r)
+  pub unclosed : (why : Unclosed) → quoted_from quote false (s.at.0 + 1) r ≡ Err why → turn (Err (unclosed_as why ended)) t ≡ taken t s r (quoted quote item r)
   unfolding quoted_from scanned unclosed_as turn taken quoted quoted_item step
-  unclosed q e not = by (scan quote false 0 r) e
+  unclosed why e = by (scan quote false 0 r) why e
     where
-      by : (x : Scan) → q ≡ scanned (s.at.0 + 1) (escaped_after false r) x → turn (unclosed_as q ended) t ≡ limited t s (step row_values s.at.0 r (machine_of t s) (quoted_item item x))
-      by L.ended f = rw (f, last) (sym (refused-step t s 3 (suc s.at.0 + length r)))
-      by (L.stray_at k) f =
+      by : (x : Scan) (why : Unclosed) → scanned (s.at.0 + 1) (escaped_after false r) x ≡ Err why → turn (Err (unclosed_as why ended)) t ≡ limited t s (step row_values s.at.0 r (machine_of t s) (quoted_item item x))
+      by L.ended (Unclosed.Ended escaped) f = rw last (sym (refused-step t s 3 (suc s.at.0 + length r)))
+      by L.ended (Unclosed.Stray p) f = cc
+      by (L.stray_at k) (Unclosed.Stray p) f =
+          let same : ◌≡◌ {A = Offset} (record { 0 = s.at.0 + 1 + k }) p = cc in
           let place : s.at.0 + 1 + k ≡ s.at.0 + suc k = omega arith in
-          rw (f, place) (sym (refused-step t s 4 (s.at.0 + suc k)))
-      by (L.closed_at k) f = absurd (not k _ f)
+          rw (← same, place) (sym (refused-step t s 4 (s.at.0 + suc k)))
+      by (L.stray_at k) (Unclosed.Ended escaped) f = cc
+      by (L.closed_at k) why f = cc
 
 module _ (rows stack marks registers : List ℕ) (s : State) (r : List ℕ) (n : ℕ) (end : Offset) where
   -- an atom or a string
-  pub span-made : (quote kind : ℕ) (item : ℕ → Item) → Spans kind item → quoted_from quote false (s.at.0 + 1) r ≡ Closed n end
+  pub span-made : (quote kind : ℕ) (item : ℕ → Item) → Spans kind item → quoted_from quote false (s.at.0 + 1) r ≡ Ok (record { count = n; end = end })
       → made (tables rows stack marks registers) s s.depth.0 (suc n) (row kind (s.at.0 + 1) n 0) ≡ taken (tables rows stack marks registers) s r (quoted quote item r)
   unfolding taken made quoted quoted_item machine_of span_row
   span-made quote kind item f e =
@@ -82,14 +89,14 @@ module _ (rows stack marks registers : List ℕ) (s : State) (r : List ℕ) (n :
       let count : length (take n r) ≡ n = length-take-le n r (omega (arith, closed-inside quote s.at.0 r n end e)) in
       rw (c.0, f s.at.0 r (machine_of (tables rows stack marks registers) s) n, count, add-one s.at.0) refl
 
-  pub comment_passes : Ready (tables rows stack marks registers) s → quoted_from (code "%") false (s.at.0 + 1) r ≡ Closed n end
-      → turn (More (record { at = end; next = s.next; depth = s.depth; marks = s.marks })) (tables rows stack marks registers) ≡ taken (tables rows stack marks registers) s r (quoted (code "%") comment_item r)
+  pub comment_passes : Ready (tables rows stack marks registers) s → quoted_from (code "%") false (s.at.0 + 1) r ≡ Ok (record { count = n; end = end })
+      → turn (Ok (Continue (record { at = end; next = s.next; depth = s.depth; marks = s.marks }))) (tables rows stack marks registers) ≡ taken (tables rows stack marks registers) s r (quoted (code "%") comment_item r)
   unfolding taken quoted quoted_item step
   comment_passes h e =
       let c = closed (code "%") s.at.0 r n end e in
       rw c.0 (passes (tables rows stack marks registers) s h (suc n) end.0 c.1)
 
-  module _ (e : quoted_from (code "`") false (s.at.0 + 1) r ≡ Closed n end) where
+  module _ (e : quoted_from (code "`") false (s.at.0 + 1) r ≡ Ok (record { count = n; end = end })) where
     pub tag-few : s.depth.0 ≤ base (last_first marks s.marks) → taken (tables rows stack marks registers) s r (quoted (code "`") tag_item r) ≡ stops 6 s.at.0 (tables rows stack marks registers)
     unfolding taken quoted quoted_item step machine_of
     tag-few h =

@@ -1,5 +1,5 @@
 -- What the items make of what the readers answer, and of a row.
-use Rattle.std.specs.Prelude.{ℕ, ◌-◌, false, cond, List, ℤ, pos, negsuc, eqb}
+use Rattle.std.specs.Prelude.{ℕ, ◌-◌, false, cond, List, ℤ, pos, negsuc, eqb, Result, Ok, Err}
 use Prim.Native.Char.{code}
 use Rattle.std.proofs.Math.Option.{Option, none, some}
 use Rattle.format.specs.Lex.{Item, tag_item, comment_item, quoted, digits, integer_of, negative}
@@ -7,25 +7,22 @@ use Rattle.format.specs.declared.Offset.{Offset}
 use Rattle.lexer.specs.Integer.{with_sign}
 use Rattle.lexer.specs.declared.integer.Begun.{Begun}
 use Rattle.lexer.specs.declared.integer.Begun.TheVariants.{Minus, Digits}
-use Rattle.lexer.specs.declared.integer.Integer.{Integer}
-use Rattle.lexer.specs.declared.quoted.Quoted.{Quoted}
-use Rattle.literals.specs.declared.binary.Count.{Count}
-use Rattle.literals.specs.declared.binary.Count.TheVariants.{Of, NoInteger, Negative}
-use Rattle.machine.specs.declared.state.Answer.{Answer}
-use Rattle.machine.specs.declared.state.Answer.TheVariants.{Refused}
+use Rattle.lexer.specs.declared.integer.NoInteger.{NoInteger}
+use Rattle.lexer.specs.declared.quoted.Unclosed.{Unclosed}
+use Rattle.format.specs.declared.refusal.Refusal.{Refusal}
+use Rattle.format.specs.declared.refusal.Refusal.TheVariants.{Cut, Stray, OutOfRange, WrongKind, Negative}
+use Rattle.format.specs.declared.refusal.Refused.{Refused}
 
--- quoted text that is not closed
-unfoldable pub unclosed_as : Quoted → Offset → Answer
-unclosed_as (Quoted.Closed n end) ended = Refused 3 ended
-unclosed_as (Quoted.Stray p) ended = Refused 4 p
-unclosed_as (Quoted.Ended escaped) ended = Refused 3 ended
+-- the refusal of quoted text that is not closed
+unfoldable pub unclosed_as : Unclosed → Offset → Refused
+unclosed_as (Unclosed.Stray p) ended = record { refusal = Stray; place = p }
+unclosed_as (Unclosed.Ended escaped) ended = record { refusal = Cut; place = ended }
 
--- an integer at `at` that has no value
-unfoldable pub no_integer_as : Integer → Offset → Offset → Answer
-no_integer_as (Integer.Value bits end) at ended = Refused 3 ended
-no_integer_as Integer.OutOfRange at ended = Refused 5 at
-no_integer_as (Integer.Stray p) at ended = Refused 4 p
-no_integer_as (Integer.Ended begun) at ended = Refused 3 ended
+-- the refusal where no integer is read at `at`
+unfoldable pub no_integer_as : NoInteger → Offset → Offset → Refused
+no_integer_as NoInteger.OutOfRange at ended = record { refusal = OutOfRange; place = at }
+no_integer_as (NoInteger.Stray p) at ended = record { refusal = Stray; place = p }
+no_integer_as (NoInteger.Ended begun) at ended = record { refusal = Cut; place = ended }
 
 -- what the first byte of an integer begins
 unfoldable pub begun_by : ℕ → Begun
@@ -44,7 +41,7 @@ abbrev pub comment_text : List ℕ → Item
 comment_text r = quoted (code "%") comment_item r
 
 -- what serves as a count
-unfoldable pub count_as : Option ℤ → Count
-count_as none = NoInteger
-count_as (some (negsuc n)) = Negative
-count_as (some (pos n)) = Of n
+unfoldable pub count_as : Option ℤ → Result ℕ Refusal
+count_as none = Err WrongKind
+count_as (some (negsuc n)) = Err Negative
+count_as (some (pos n)) = Ok n

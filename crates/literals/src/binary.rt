@@ -10,32 +10,25 @@ ghost use Rattle.format.specs.Answer.{tables};
 ghost use Rattle.machine.specs.Held.{Ready, machine_of, turn, limited, taken};
 ghost use Rattle.literals.specs.Readers.{count_as};
 
-use format::{Depth, Offset, Row, byte, kind, refusal};
-use machine::state::{Answer, State};
+use format::refusal::Refusal;
+use format::{Depth, Offset, Row, byte, kind};
+use machine::state::{Answer, State, refused_at};
 use machine::{state, value};
 use table::RowWords;
 
-// What a row is as a count: its value, no integer, or a negative one.
-#[derive(Clone, Copy)]
-pub(crate) enum Count {
-    Of(u64),
-    NoInteger,
-    Negative,
-}
-
-// The count that row v is, for which the table has room.
-fn count_of(rows: &[u32], v: Row) -> Count
+// The count that row v is, for which the table has room; or why it is none: no integer, or a negative one.
+fn count_of(rows: &[u32], v: Row) -> Result<u64, Refusal>
     requires { v.0 < row_room rows.now }
     ensures { result ≡ count_as (row_integer (row_in rows.now v.0)) }
 {
     let words = table::read_row(rows, v);
     if words.kind != kind::INTEGER {
-        return Count::NoInteger;
+        return Err(Refusal::WrongKind);
     }
     if table::SIGN_BIT <= words.first {
-        return Count::Negative;
+        return Err(Refusal::Negative);
     }
-    Count::Of((words.first as u64) * table::WORD_VALUES + (words.second as u64))
+    Ok((words.first as u64) * table::WORD_VALUES + (words.second as u64))
 }
 
 // The bytes of a binary after its first `~`: so many, and a `~` after them.
@@ -47,11 +40,11 @@ fn binary_bytes(message: &[u8], rows: &mut [u32], stack: &mut [u32], s: State, c
     let start = s.at.0 + 1;
     let depth = s.depth.0;
     if (message.len() - start) as u64 <= count {
-        return Answer::Refused(refusal::CUT, Offset(message.len()));
+        return Err(refused_at(Offset(message.len()), Refusal::Cut));
     }
     let end = start + (count as usize);
     if message[end] != byte::TILDE {
-        return Answer::Refused(refusal::STRAY, Offset(end));
+        return Err(refused_at(Offset(end), Refusal::Stray));
     }
     value::push_value(
         rows,
@@ -84,17 +77,10 @@ pub fn binary_item(
 {
     let at = s.at;
     let depth = s.depth;
-    let base = state::base(marks, s.marks);
-    if depth.0 <= base.0 {
-        return Answer::Refused(refusal::TOO_FEW, at);
-    }
+    state::need_values(marks, s, 1)?;
     let v = state::top(stack, depth);
-    let q = count_of(rows, v);
-    let Count::Of(n) = q else {
-        let Count::Negative = q else {
-            return Answer::Refused(refusal::WRONG_KIND, at);
-        };
-        return Answer::Refused(refusal::NEGATIVE, at);
-    };
-    binary_bytes(message, rows, stack, s, n)
+    match count_of(rows, v) {
+        Ok(count) => binary_bytes(message, rows, stack, s, count),
+        Err(refusal) => Err(refused_at(at, refusal)),
+    }
 }

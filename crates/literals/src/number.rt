@@ -5,22 +5,22 @@ ghost use Rattle.format.specs.Answer.{tables};
 ghost use Rattle.machine.specs.Held.{Ready, turn, taken};
 ghost use Rattle.literals.specs.Readers.{no_integer_as, begun_item, begun_by};
 
-use format::{Offset, byte, kind, refusal};
+use format::refusal::{Refusal, Refused};
+use format::{Offset, byte, kind};
 use lexer::integer;
-use lexer::integer::{Begun, Integer};
-use machine::state::{Answer, State};
+use lexer::integer::{Begun, Integer, NoInteger};
+use machine::state::{Answer, State, refused_at};
 use machine::value;
 use table::RowWords;
 
-// The refusal of an integer at `at` that has no value.
-fn no_integer(q: Integer, at: Offset, ended: Offset) -> Answer
-    ensures { result ≡ no_integer_as q at ended }
+// The refusal where no integer is read at `at`; `ended` is the slice's end.
+fn no_integer(why: NoInteger, at: Offset, ended: Offset) -> Refused
+    ensures { result ≡ no_integer_as why at ended }
 {
-    match q {
-        Integer::OutOfRange => Answer::Refused(refusal::OUT_OF_RANGE, at),
-        Integer::Stray(p) => Answer::Refused(refusal::STRAY, p),
-        Integer::Ended(_) => Answer::Refused(refusal::CUT, ended),
-        Integer::Value(_, _) => Answer::Refused(refusal::CUT, ended),
+    match why {
+        NoInteger::OutOfRange => refused_at(at, Refusal::OutOfRange),
+        NoInteger::Stray(p) => refused_at(p, Refusal::Stray),
+        NoInteger::Ended(_) => refused_at(ended, Refusal::Cut),
     }
 }
 
@@ -43,9 +43,10 @@ pub fn integer_item(message: &[u8], rows: &mut [u32], stack: &mut [u32], s: Stat
 {
     let at = s.at;
     let depth = s.depth;
-    let q = integer::read_integer(message, Offset(at.0 + 1), begun_by(b));
-    let Integer::Value(bits, end) = q else {
-        return no_integer(q, at, Offset(message.len()));
+    let read = integer::read_integer(message, Offset(at.0 + 1), begun_by(b));
+    let Integer { bits, end } = match read {
+        Ok(integer) => integer,
+        Err(why) => return Err(no_integer(why, at, Offset(message.len()))),
     };
     value::push_value(
         rows,

@@ -6,21 +6,23 @@ ghost use Rattle.format.specs.Answer.{Tables, tables};
 ghost use Rattle.machine.specs.Held.{Ready, Spans, turn, taken};
 ghost use Rattle.literals.specs.Readers.{unclosed_as, tag_text, comment_text};
 
-use format::{Depth, Offset, byte, kind, refusal};
+use format::refusal::{Refusal, Refused};
+use format::{Depth, Offset, byte, kind};
 use lexer::quoted;
-use lexer::quoted::Quoted;
-use machine::state::{Answer, State};
+use lexer::quoted::{Quoted, Unclosed};
+use machine::state::{Answer, State, refused_at};
 use machine::{state, value};
+use std::ops::ControlFlow;
 use table::RowWords;
 
 // The refusal of quoted text that was not closed; `ended` is the slice's end.
-fn unclosed(q: Quoted, ended: Offset) -> Answer
-    ensures { result ≡ unclosed_as q ended }
+fn unclosed(why: Unclosed, ended: Offset) -> Refused
+    ensures { result ≡ unclosed_as why ended }
 {
-    let Quoted::Stray(p) = q else {
-        return Answer::Refused(refusal::CUT, ended);
-    };
-    Answer::Refused(refusal::STRAY, p)
+    match why {
+        Unclosed::Stray(p) => refused_at(p, Refusal::Stray),
+        Unclosed::Ended(_) => refused_at(ended, Refusal::Cut),
+    }
 }
 
 // An atom or a string.
@@ -37,9 +39,10 @@ pub fn quoted_item(
 {
     let start = s.at.0 + 1;
     let depth = s.depth;
-    let q = quoted::read_quoted(message, Offset(start), quote, false);
-    let Quoted::Closed(length, end) = q else {
-        return unclosed(q, Offset(message.len()));
+    let read = quoted::read_quoted(message, Offset(start), quote, false);
+    let Quoted { count, end } = match read {
+        Ok(quoted) => quoted,
+        Err(why) => return Err(unclosed(why, Offset(message.len()))),
     };
     value::push_value(
         rows,
@@ -50,7 +53,7 @@ pub fn quoted_item(
         RowWords {
             kind,
             first: start as u32,
-            second: length as u32,
+            second: count as u32,
             third: 0,
         },
     )
@@ -63,16 +66,17 @@ pub fn comment_item(message: &[u8], s: State) -> Answer
 {
     let next = s.next;
     let depth = s.depth;
-    let q = quoted::read_quoted(message, Offset(s.at.0 + 1), byte::COMMENT_QUOTE, false);
-    let Quoted::Closed(_, end) = q else {
-        return unclosed(q, Offset(message.len()));
+    let read = quoted::read_quoted(message, Offset(s.at.0 + 1), byte::COMMENT_QUOTE, false);
+    let Quoted { end, .. } = match read {
+        Ok(quoted) => quoted,
+        Err(why) => return Err(unclosed(why, Offset(message.len()))),
     };
-    Answer::More(State {
+    Ok(ControlFlow::Continue(State {
         at: end,
         next,
         depth,
         marks: s.marks,
-    })
+    }))
 }
 
 // A tag over the top value.
@@ -88,18 +92,14 @@ pub fn tag_item(
     requires depth_in_bounds { s.depth.0 ≤ length stack.old }
     ensures { (registers : List ℕ) → Ready (tables rows.old stack.old marks.now registers) s → turn result (tables rows.new stack.new marks.now registers) ≡ taken (tables rows.old stack.old marks.now registers) s (drop (s.at.0 + 1) message.now) (tag_text (drop (s.at.0 + 1) message.now)) }
 {
-    let at = s.at;
-    let start = at.0 + 1;
+    let start = s.at.0 + 1;
     let depth = s.depth;
-    let noted = s.marks;
-    let q = quoted::read_name(message, Offset(start), byte::TAG_QUOTE);
-    let Quoted::Closed(length, end) = q else {
-        return unclosed(q, Offset(message.len()));
+    let read = quoted::read_name(message, Offset(start), byte::TAG_QUOTE);
+    let Quoted { count, end } = match read {
+        Ok(quoted) => quoted,
+        Err(why) => return Err(unclosed(why, Offset(message.len()))),
     };
-    let base = state::base(marks, noted);
-    if depth.0 <= base.0 {
-        return Answer::Refused(refusal::TOO_FEW, at);
-    }
+    state::need_values(marks, s, 1)?;
     let inner = state::top(stack, depth);
     value::push_value(
         rows,
@@ -110,7 +110,7 @@ pub fn tag_item(
         RowWords {
             kind: kind::TAG,
             first: start as u32,
-            second: length as u32,
+            second: count as u32,
             third: inner.0,
         },
     )

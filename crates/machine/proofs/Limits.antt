@@ -32,10 +32,9 @@ unfolding turn
 refusal f e = rw f (sym e)
 
 -- one that `?` passes up
-pub passed_up : {x : Turn} {k : Refusal} {p : Offset} {t : Tables} {e : Refused} (r : Result (ControlFlow RowNumber State) Refused) → IsErrAnd r (λ y. y ≡ e)
-    → e ≡ record { refusal = k; place = p } → x ≡ stops (number_of k) p.0 t → turn r t ≡ x
-passed_up (Ok y) h f e = absurd h
-passed_up (Err y) h f e = rw h (refusal f e)
+pub passed_up : {x : Turn} (r : Result (ControlFlow RowNumber State) Refused) (e : Refused) (t : Tables) → IsErrAnd r (λ y. y ≡ e) → turn (Err e) t ≡ x → turn r t ≡ x
+passed_up (Ok y) e t h f = absurd h
+passed_up (Err y) e t h f = rw h f
 
 module _ (t : Tables) (s : State) where
   -- an item's own refusal, whatever the limits

@@ -4,16 +4,12 @@ use Rattle.literals.proofs.number.no_integer.Goals as goal
 
 pub returns-in-OutOfRange : goal.returns-in-OutOfRange
 unfolding no_integer_as
-returns-in-OutOfRange c = rw c.in-OutOfRange.is
+returns-in-OutOfRange c = rw c.in-OutOfRange.is c.refused_at.ensures
 
 pub returns-in-Stray : goal.returns-in-Stray
 unfolding no_integer_as
-returns-in-Stray c = rw c.in-Stray.is
+returns-in-Stray c = rw c.in-Stray.is c.refused_at-in-Stray.ensures
 
 pub returns-in-Ended : goal.returns-in-Ended
 unfolding no_integer_as
-returns-in-Ended c = rw c.in-Ended.is
-
-pub returns-in-Value : goal.returns-in-Value
-unfolding no_integer_as
-returns-in-Value c = rw c.in-Value.is
+returns-in-Ended c = rw c.in-Ended.is c.refused_at-in-Ended.ensures

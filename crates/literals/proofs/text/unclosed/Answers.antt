@@ -1,12 +1,11 @@
--- `literals::text::unclosed` meets its contract: of the answers that are not stray, both refuse at the slice's end.
-use borrow.Enum.Refused.{opened}
+-- `literals::text::unclosed` meets its contract, arm by arm.
 use Rattle.literals.specs.Readers.{unclosed_as}
-use Rattle.literals.proofs.Answered.{not-stray}
 use Rattle.literals.proofs.text.unclosed.Goals as goal
 
-pub returns-in_default : goal.returns-in_default
-returns-in_default c = not-stray _ _ (opened c.in_default.in_default-own.keys2)
-
-pub returns : goal.returns
+pub returns-in-Stray : goal.returns-in-Stray
 unfolding unclosed_as
-returns c = rw c.in-Stray.is
+returns-in-Stray c = rw c.in-Stray.is c.refused_at.ensures
+
+pub returns-in-Ended : goal.returns-in-Ended
+unfolding unclosed_as
+returns-in-Ended c = rw c.in-Ended.is c.refused_at-in-Ended.ensures

@@ -13,7 +13,7 @@ pub returns-in-Err-Ended : goal.returns-in-Err-Ended
 returns-in-Err-Ended c rows _ = refusal c.refused_at-in-Err-Ended.ensures (laws.store-cut rows _ _ _ _ _ _ (rest-ends _ _ (omega arith)) (rw c.in-Err-Ended.field-0-is at (sym c.read_register.ensures ∙ c.in-Err-Ended.is)))
 
 pub returns-in_err-need_values : goal.returns-in_err-need_values
-returns-in_err-need_values c rows _ = passed_up _ c.from_residual.ensures.1 c.in_err-need_values.ensures.1 (laws.store-few rows _ _ _ _ _ _ _ (sym c.read_register.ensures ∙ c.in-Ok.is) (omega (arith, c.in_err-need_values.ensures.0)))
+returns-in_err-need_values c rows _ = passed_up _ _ _ c.from_residual.ensures.1 (refusal c.in_err-need_values.ensures.1 (laws.store-few rows _ _ _ _ _ _ _ (sym c.read_register.ensures ∙ c.in-Ok.is) (omega (arith, c.in_err-need_values.ensures.0))))
 
 pub overflow_add-registers : goal.overflow_add-registers
 overflow_add-registers c = omega (arith, c.requires.depth_bound (omega (arith, c.in_ok-need_values.ensures)), c.top-v.ensures)
