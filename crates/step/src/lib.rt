@@ -8,9 +8,10 @@ ghost use Rattle.format.specs.Byte.{class_of, class_code};
 ghost use Rattle.format.specs.Lex.{lex};
 ghost use Rattle.machine.specs.Held.{Ready, turn, taken};
 
-use format::{byte, class, kind, refusal};
+use format::refusal::Refusal;
+use format::{byte, class, kind};
 use literals::{binary, number, text};
-use machine::state::{Answer, State};
+use machine::state::{Answer, State, refused_at};
 use operators::{end, list, register, tuple, white};
 
 // One item, whose first byte is b. `classes` is the class table.
@@ -56,6 +57,6 @@ pub fn step(
         class::DOLLAR => end::end_item(stack, s),
         class::GREATER => register::store_item(message, stack, marks, registers, s),
         class::REGISTER => register::push_item(stack, registers, s, b),
-        _ => Answer::Refused(refusal::STRAY, at),
+        _ => Err(refused_at(at, Refusal::Stray)),
     }
 }

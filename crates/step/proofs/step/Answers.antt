@@ -88,4 +88,4 @@ returns-in-1 c = rw (integer-lex _ _ (search) c.requires.class_known (search) (o
 
 pub returns-in_default : goal.returns-in_default
 unfolding item_of
-returns-in_default c = rw (lex_of B.comma _ _ (sym c.requires.class_known ∙ (only_comma (class_of _) _ c.requires.class_known (search) (omega arith)))) (stray _ _ _)
+returns-in_default c = rw (lex_of B.comma _ _ (sym c.requires.class_known ∙ (only_comma (class_of _) _ c.requires.class_known (search) (omega arith)))) (rw c.refused_at.ensures (stray _ _ _))
