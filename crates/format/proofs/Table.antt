@@ -1,28 +1,20 @@
 -- A rule that holds at every entry of a table, or for every byte, by one test that the checker computes.
-use Prim.Native.Nat.{ℕ, zero, suc, ◌+◌, ◌<◌}
-use mathlib.Core.Path.{◌≡◌, refl, sym, subst}
+use Prim.Native.Nat.{ℕ, zero, suc, ◌<◌}
+use mathlib.Core.Path.{◌≡◌, refl, sym, ap, ◌∙◌}
 use mathlib.Core.Bool.{Bool, true, false, ◌&&◌, not, cond}
-use mathlib.Core.List.{List, [], ◌∷◌}
-use native.Mathlib.Nat.{add-zero, zero-add, add-suc, suc-add, le_of_suc-le-suc, not-suc-le-zero}
+use mathlib.Core.List.{List, map}
+use native.Mathlib.Nat.{zero-add, not-suc-le-zero}
 use native.Mathlib.Omega.{arith}
-use lib.Dec.{T, eqb, eqb→eq}
+use lib.Dec.{T, eqb}
 use borrow.Author.Tests.{eqb-true, eqb-false}
-use lib.ListN.{length, get_or}
+use lib.ListN.{get_or, get_or-map}
+use Rattle.std.specs.List.{range_with_len}
+use Rattle.std.proofs.lemmas.List.FromFn.{get_or-map-range_with_len}
 use Rattle.format.proofs.Tests.{left_of, right_of}
 
--- entry i + k is f (i + k)
-unfoldable pub follows : (ℕ → ℕ) → ℕ → List ℕ → Bool
-follows f i [] = true
-follows f i (x ∷ xs) = eqb x (f i) && follows f (suc i) xs
-
-entry-from : (f : ℕ → ℕ) (xs : List ℕ) (i : ℕ) → T (follows f i xs) → (k : ℕ) → k < length xs → get_or xs k 0 ≡ f (i + k)
-unfolding follows
-entry-from f [] i t k h = absurd (not-suc-le-zero h)
-entry-from f (x ∷ xs) i t zero h = rw add-zero (eqb→eq x (f i) (left_of (eqb x (f i)) (follows f (suc i) xs) t))
-entry-from f (x ∷ xs) i t (suc k) h = rw (add-suc, ← suc-add) (entry-from f xs (suc i) (right_of (eqb x (f i)) (follows f (suc i) xs) t) k (le_of_suc-le-suc h))
-
-pub entry : (f : ℕ → ℕ) (xs : List ℕ) (k : ℕ) → k < length xs → follows f 0 xs ≡ true → get_or xs k 0 ≡ f k
-entry f xs k h t = rw zero-add at (entry-from f xs 0 (subst T (sym t) tt) k h)
+-- a table whose entries, told by g, are f of each number below n
+pub entry : {A B : Type 0} (g : A → B) (f : ℕ → B) (xs : List A) (n : ℕ) (d : A) → map g xs ≡ map f (range_with_len 0 n) → (k : ℕ) → k < n → g (get_or xs k d) ≡ f k
+entry g f xs n d e k h = sym (get_or-map g xs k d) ∙ ap (λ ys. get_or ys k (g d)) e ∙ get_or-map-range_with_len f 0 n k k (g d) h (zero-add k)
 
 -- two tests that agree on all numbers below n
 unfoldable pub agree : (ℕ → Bool) → (ℕ → Bool) → ℕ → Bool

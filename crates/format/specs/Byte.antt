@@ -33,7 +33,7 @@ class_in ((k is c) ∷ es) b = elim (eqb k b) [ true ↦ c | false ↦ class_in 
 unfoldable pub class_of : ℕ → Class
 class_of b = class_in specials b
 
--- the number that stands for a class in the code's table
+-- a number for each class, by which two are compared
 abbrev pub class_code : Class → ℕ
 class_code white = 0
 class_code digit = 1

@@ -2,6 +2,7 @@
 
 -- 'Bytes and items'
 pub mod Byte
+pub mod Classes
 pub mod Lex
 -- 'The machine', and from 'Refusal numbers' the order within each item
 pub mod Machine

@@ -1,6 +1,6 @@
 -- The byte at a place of a message, its class, and the range of the digits.
 use Prim.Native.Nat.{ℕ, suc, ◌+◌, ◌-◌, ◌≤◌, ◌<◌}
-use mathlib.Core.Path.{◌≡◌, refl, sym, subst, ◌∙◌}
+use mathlib.Core.Path.{◌≡◌, refl, sym, subst}
 use mathlib.Core.Bool.{Bool, true, false, ◌&&◌, cond}
 use mathlib.Core.List.{List, [], ◌∷◌}
 use native.Mathlib.Numerals.{add-one}
@@ -8,7 +8,7 @@ use native.Mathlib.Omega.{arith}
 use lib.ListN.{length, drop, get_or}
 use lib.Seq.{drop-cons}
 use lib.Dec.{T, eqb, leb, leb→le}
-use borrow.Author.Tests.{eq-eqb, eqb-true}
+use borrow.Author.Tests.{eqb-true}
 use Rattle.format.specs.Byte as B
 use Rattle.format.specs.Byte.{Class, Entry, ◌is◌, specials, class_in, class_of, class_code, has_class}
 use Rattle.format.proofs.Tests.{left_of, right_of}
@@ -19,12 +19,6 @@ byte_at message i h = rw (add-one, drop-cons message i 0)
 -- one byte further from the start
 pub next-count : (start i : ℕ) → start ≤ i → (i + 1) - start ≡ suc (i - start)
 next-count start i h = omega arith
-
--- what the code's test of a class says
-module _ (k : Class) (b : ℕ) {code : ℕ} (e : code ≡ class_code (class_of b)) where
-  pub has : code ≡ class_code k → has_class k b ≡ true
-  unfolding has_class
-  has h = eq-eqb _ _ (sym e ∙ h)
 
 abbrev in_digits : ℕ → Bool
 in_digits b = leb 48 b && leb b 57

@@ -1,91 +1,78 @@
 -- `step::step` meets its contract: the class of the first byte tells the item, and each item does what the machine's step does.
 use Prim.Native.Nat.{◌-◌}
-use mathlib.Core.Path.{sym, ◌∙◌}
 use native.Mathlib.Omega.{arith}
-use Rattle.format.specs.Byte as B
-use Rattle.format.specs.Byte.{Class, class_of, class_code}
+use Rattle.format.specs.declared.class.Class.TheVariants as C
 use Rattle.format.specs.Lex.{item_of}
 use Rattle.format.specs.Rows.{row_room}
-use Rattle.step.proofs.Classes.{lex_of, only_comma, integer-lex, integer-first}
+use Rattle.step.proofs.Classes.{lex_of, integer-lex, integer-first}
 use Rattle.literals.proofs.Spans.{atoms, strings}
 use Rattle.operators.proofs.Steps.{stray}
 use Rattle.step.proofs.step.Goals as goal
 
-pub binary_item-requires : goal.binary_item-requires
-binary_item-requires c =
-    let held = c.requires.ready in
-    record { at_in_bounds = omega arith; marks_in_bounds = omega arith; depth_in_bounds = omega arith; values_among = λ i l. omega (arith, held.values i l, held.used) }
+pub integer_item-requires-clause-minus_or_digit : goal.integer_item-requires-clause-minus_or_digit
+integer_item-requires-clause-minus_or_digit c = integer-first _ c.requires.class_known (search) c.in-Digit.is
 
-pub store_item-requires : goal.store_item-requires
+pub store_item-requires-clause-depth_bound : goal.store_item-requires-clause-depth_bound
 unfolding row_room
-store_item-requires c =
+store_item-requires-clause-depth_bound c l =
     let held = c.requires.ready in
-    record {
-      at_in_bounds = search;
-      marks_in_bounds = omega arith;
-      depth_in_bounds = omega arith;
-      register_words_in_bounds = omega arith;
-      depth_bound = λ l. omega (arith, held.values (c.args.s.depth.0 - 1) (omega arith), held.used);
-    }
+    omega (arith, held.values (c.args.s.depth.0 - 1) (omega arith), held.used)
 
-pub integer_item-requires : goal.integer_item-requires
-integer_item-requires c = record { at_in_bounds = search; minus_or_digit = integer-first _ _ (search) c.requires.class_known (search) (omega arith) }
+pub returns-in-Digit : goal.returns-in-Digit
+returns-in-Digit c = rw (integer-lex _ c.requires.class_known (search) c.in-Digit.is _) (c.integer_item.ensures _ _ c.requires.ready)
 
-pub returns-in-0 : goal.returns-in-0
+pub returns-in-White : goal.returns-in-White
 unfolding item_of
-returns-in-0 c = rw (lex_of B.white _ _ (sym c.requires.class_known ∙ c.in-0.is)) (c.white_item.ensures _ _ c.requires.ready)
+returns-in-White c = rw (lex_of _ c.requires.class_known C.White _ c.in-White.is) (c.white_item.ensures _ _ c.requires.ready)
 
-pub returns-in-3 : goal.returns-in-3
+pub returns-in-AtomQuote : goal.returns-in-AtomQuote
 unfolding item_of
-returns-in-3 c = rw (lex_of B.atom_quote _ _ (sym c.requires.class_known ∙ c.in-3.is)) (c.quoted_item.ensures _ _ _ c.requires.ready atoms)
+returns-in-AtomQuote c = rw (lex_of _ c.requires.class_known C.AtomQuote _ c.in-AtomQuote.is) (c.quoted_item.ensures _ _ _ c.requires.ready atoms)
 
-pub returns-in-4 : goal.returns-in-4
+pub returns-in-StringQuote : goal.returns-in-StringQuote
 unfolding item_of
-returns-in-4 c = rw (lex_of B.string_quote _ _ (sym c.requires.class_known ∙ c.in-4.is)) (c.quoted_item-in-4.ensures _ _ _ c.requires.ready strings)
+returns-in-StringQuote c = rw (lex_of _ c.requires.class_known C.StringQuote _ c.in-StringQuote.is) (c.quoted_item-in-StringQuote.ensures _ _ _ c.requires.ready strings)
 
-pub returns-in-5 : goal.returns-in-5
+pub returns-in-TagQuote : goal.returns-in-TagQuote
 unfolding item_of
-returns-in-5 c = rw (lex_of B.tag_quote _ _ (sym c.requires.class_known ∙ c.in-5.is)) (c.tag_item.ensures _ c.requires.ready)
+returns-in-TagQuote c = rw (lex_of _ c.requires.class_known C.TagQuote _ c.in-TagQuote.is) (c.tag_item.ensures _ c.requires.ready)
 
-pub returns-in-6 : goal.returns-in-6
+pub returns-in-CommentQuote : goal.returns-in-CommentQuote
 unfolding item_of
-returns-in-6 c = rw (lex_of B.comment_quote _ _ (sym c.requires.class_known ∙ c.in-6.is)) (c.comment_item.ensures _ c.requires.ready)
+returns-in-CommentQuote c = rw (lex_of _ c.requires.class_known C.CommentQuote _ c.in-CommentQuote.is) (c.comment_item.ensures _ c.requires.ready)
 
-pub returns-in-7 : goal.returns-in-7
+pub returns-in-LeftBrace : goal.returns-in-LeftBrace
 unfolding item_of
-returns-in-7 c = rw (lex_of B.left_brace _ _ (sym c.requires.class_known ∙ c.in-7.is)) (c.open_item.ensures _ _ _ _ c.requires.ready)
+returns-in-LeftBrace c = rw (lex_of _ c.requires.class_known C.LeftBrace _ c.in-LeftBrace.is) (c.open_item.ensures _ _ _ _ c.requires.ready)
 
-pub returns-in-8 : goal.returns-in-8
+pub returns-in-RightBrace : goal.returns-in-RightBrace
 unfolding item_of
-returns-in-8 c = rw (lex_of B.right_brace _ _ (sym c.requires.class_known ∙ c.in-8.is)) (c.close_item.ensures _ _ c.requires.ready)
+returns-in-RightBrace c = rw (lex_of _ c.requires.class_known C.RightBrace _ c.in-RightBrace.is) (c.close_item.ensures _ _ c.requires.ready)
 
-pub returns-in-9 : goal.returns-in-9
+pub returns-in-Tilde : goal.returns-in-Tilde
 unfolding item_of
-returns-in-9 c = rw (lex_of B.tilde _ _ (sym c.requires.class_known ∙ c.in-9.is)) (c.binary_item.ensures _ c.requires.ready)
+returns-in-Tilde c = rw (lex_of _ c.requires.class_known C.Tilde _ c.in-Tilde.is) (c.binary_item.ensures _ c.requires.ready)
 
-pub returns-in-10 : goal.returns-in-10
+pub returns-in-Hash : goal.returns-in-Hash
 unfolding item_of
-returns-in-10 c = rw (lex_of B.hash _ _ (sym c.requires.class_known ∙ c.in-10.is)) (c.nil_item.ensures _ _ _ c.requires.ready)
+returns-in-Hash c = rw (lex_of _ c.requires.class_known C.Hash _ c.in-Hash.is) (c.nil_item.ensures _ _ _ c.requires.ready)
 
-pub returns-in-11 : goal.returns-in-11
+pub returns-in-Ampersand : goal.returns-in-Ampersand
 unfolding item_of
-returns-in-11 c = rw (lex_of B.ampersand _ _ (sym c.requires.class_known ∙ c.in-11.is)) (c.cons_item.ensures _ _ c.requires.ready)
+returns-in-Ampersand c = rw (lex_of _ c.requires.class_known C.Ampersand _ c.in-Ampersand.is) (c.cons_item.ensures _ _ c.requires.ready)
 
-pub returns-in-12 : goal.returns-in-12
+pub returns-in-Dollar : goal.returns-in-Dollar
 unfolding item_of
-returns-in-12 c = rw (lex_of B.dollar _ _ (sym c.requires.class_known ∙ c.in-12.is)) (c.end_item.ensures _ _ _ _)
+returns-in-Dollar c = rw (lex_of _ c.requires.class_known C.Dollar _ c.in-Dollar.is) (c.end_item.ensures _ _ _ _)
 
-pub returns-in-13 : goal.returns-in-13
+pub returns-in-Greater : goal.returns-in-Greater
 unfolding item_of
-returns-in-13 c = rw (lex_of B.greater _ _ (sym c.requires.class_known ∙ c.in-13.is)) (c.store_item.ensures _ c.requires.ready)
+returns-in-Greater c = rw (lex_of _ c.requires.class_known C.Greater _ c.in-Greater.is) (c.store_item.ensures _ c.requires.ready)
 
-pub returns-in-15 : goal.returns-in-15
+pub returns-in-Register : goal.returns-in-Register
 unfolding item_of
-returns-in-15 c = rw (lex_of B.register _ _ (sym c.requires.class_known ∙ c.in-15.is)) (c.push_item.ensures _ _ _ c.requires.ready)
+returns-in-Register c = rw (lex_of _ c.requires.class_known C.Register _ c.in-Register.is) (c.push_item.ensures _ _ _ c.requires.ready)
 
-pub returns-in-1 : goal.returns-in-1
-returns-in-1 c = rw (integer-lex _ _ (search) c.requires.class_known (search) (omega arith) _) (c.integer_item.ensures _ _ c.requires.ready)
-
-pub returns-in_default : goal.returns-in_default
+pub returns-in-Comma : goal.returns-in-Comma
 unfolding item_of
-returns-in_default c = rw (lex_of B.comma _ _ (sym c.requires.class_known ∙ (only_comma (class_of _) _ c.requires.class_known (search) (omega arith)))) (rw c.refused_at.ensures (stray _ _ _))
+returns-in-Comma c = rw (lex_of _ c.requires.class_known C.Comma _ c.in-Comma.is) (rw c.refused_at.ensures (stray _ _ _))
