@@ -4,17 +4,17 @@ use mathlib.Core.Path.{◌≡◌, sym}
 use mathlib.Core.List.{List}
 use lib.ListN.{length, take}
 use lib.Seq.{length-take-le}
+use Rattle.std.specs.Prelude.{Result, Ok}
 use Rattle.ubfa_text.specs.Input.{InBuffer}
 use Rattle.ubfa_text.specs.Response.{InOutput}
-use Rattle.ubfa_text.specs.declared.input.Input.{Input}
-use Rattle.ubfa_text.specs.declared.input.Input.TheVariants as I
+use Rattle.ubfa_text.specs.declared.input.InputError.{InputError}
 use Rattle.ubfa_text.specs.declared.respond.Response.{Response}
 use Rattle.ubfa_text.specs.declared.respond.Response.TheVariants as R
 
 pub text-fits : (r : Response) (output : List ℕ) → InOutput r output → (n : ℕ) → r ≡ R.Text n → n ≤ length output
 text-fits r output h n e = rw e at h
 
-pub bytes_fit : (i : Input) (buffer : List ℕ) → InBuffer i (length buffer) → (n : ℕ) → i ≡ I.Bytes n → n ≤ length buffer
+pub bytes_fit : (i : Result ℕ InputError) (buffer : List ℕ) → InBuffer i (length buffer) → (n : ℕ) → i ≡ Ok n → n ≤ length buffer
 bytes_fit i buffer h n e = rw e at h
 
 -- and has so many bytes

@@ -1,7 +1,7 @@
 //! The program of 01: reads a message on standard input, and writes its plain text or its refusal, and a newline, on standard output.
 #![tactic(auto)]
 
-use crate::input::Input;
+use crate::input::InputError;
 use crate::respond::Response;
 use format::{Offset, refusal};
 use std::io;
@@ -14,59 +14,41 @@ const MESSAGE_BYTES: usize = 16384;
 
 const OUTPUT_BYTES: usize = 16384;
 
-// A part of the line.
-fn print(rt: &impl Print, s: &[u8]) -> io::Result<()> {
-    rt.write_all(s)
-}
-
-fn print_number(rt: &impl Print, n: u64) -> io::Result<()> {
-    rt.print(n)
-}
-
+// The line of a refusal.
 fn print_refusal(rt: &impl Print, number: u8, place: Offset) -> io::Result<()> {
-    print(rt, b"refused ")?;
-    print_number(rt, number as u64)?;
-    print(rt, b" at ")?;
-    print_number(rt, place.0 as u64)?;
-    print(rt, b"\n")
+    println!(rt; "refused {number} at {}", place.0)
 }
 
 // The plain text of a message, or its refusal.
 fn print_answer(rt: &impl Print, message: &[u8]) -> io::Result<()> {
     let mut output = [0u8; OUTPUT_BYTES];
-    let response = respond::respond(message, &mut output);
-    match response {
+    match respond::respond(message, &mut output) {
         Response::Text(n) => {
-            print(rt, &output[..n])?;
-            print(rt, b"\n")
+            rt.write_all(&output[..n])?;
+            println!(rt)
         }
         Response::Refused(number, place) => print_refusal(rt, number, place),
     }
 }
 
 fn complain(rt: &impl Eprint, what: &str) {
-    let _ = rt.eprintln(what);
+    let _ = eprintln!(rt; "ubfa: {what}");
 }
 
 // The line is written whole, or it is said on standard error that it was not.
 fn finish(rt: &impl Eprint, written: io::Result<()>) {
     if written.is_err() {
-        complain(rt, "ubfa: cannot write standard output");
+        complain(rt, "cannot write standard output");
     }
 }
 
 fn main(rt: HostRuntime) {
     let mut message = [0u8; MESSAGE_BYTES];
-    let got = input::read_message(&mut rt.stdin(), &mut message);
-    match got {
-        Input::Bytes(n) => {
-            finish(&rt, print_answer(&rt, &message[..n]));
-        }
-        Input::TooLong => {
+    match input::read_message(&mut rt.stdin(), &mut message) {
+        Ok(n) => finish(&rt, print_answer(&rt, &message[..n])),
+        Err(InputError::TooLong) => {
             finish(&rt, print_refusal(&rt, refusal::OVER_BOUND, Offset(0)));
         }
-        Input::Failed => {
-            complain(&rt, "ubfa: cannot read standard input");
-        }
+        Err(InputError::Failed) => complain(&rt, "cannot read standard input"),
     }
 }
