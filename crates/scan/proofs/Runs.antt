@@ -33,10 +33,10 @@ module _ (quote b : ℕ) where
 
   module _ (plain : is_mark quote b ≡ false) where
     pub no_quote : b ≡ quote → ⊥
-    no_quote e = let z : true ≡ false = sym (quote_is_mark e) ∙ plain in let y : ◌≡◌ {A = ℕ} 0 1 = cc in omega arith
+    no_quote e = let z : true ≡ false = sym (quote_is_mark e) ∙ plain in cc
 
     pub no_backslash : b ≡ 92 → ⊥
-    no_backslash e = let z : true ≡ false = sym (backslash-is_mark e) ∙ plain in let y : ◌≡◌ {A = ℕ} 0 1 = cc in omega arith
+    no_backslash e = let z : true ≡ false = sym (backslash-is_mark e) ∙ plain in cc
 
   pub is-backslash : is_mark quote b ≡ true → (b ≡ quote → ⊥) → b ≡ 92
   unfolding is_mark
@@ -137,7 +137,8 @@ module _ (quote : ℕ) where
       by_count = refl
 
       -- where a run comes to a mark or to `end`
-      pub ends : {r : ℕ} → Plain quote message from r → r ≤ end → (r < end → is_mark quote (get_or message r 0) ≡ true) → r ≡ plain_end quote message from end
+      pub ends : {r : ℕ} → Plain quote message from r → r ≤ end → (r < end → is_mark quote (get_or message r 0) ≡ true)
+          → r ≡ plain_end quote message from end
       ends {r} p l s =
           let e : from + (r - from) ≡ r = omega (arith, p.past) in
           let c : Counted bytes (r - from) = record {
@@ -170,7 +171,9 @@ module _ (quote : ℕ) where
 
   module _ (message : List ℕ) (from end : ℕ) where
     -- a plain run passed before
-    pub after_run : end ≤ length message → {i r : ℕ} → Plain quote message from i → i ≤ end → r ≡ plain_end quote message i end → r ≡ plain_end quote message from end
+    pub after_run : end ≤ length message → {i r : ℕ} → Plain quote message from i → i ≤ end
+        → r ≡ plain_end quote message i end → r ≡ plain_end quote message from end
     after_run l {i} {r} p h e =
         let start : from ≤ end = omega (arith, p.past) in
-        ends message from end l start (further message p (rw e (plain message i end l h))) (rw e (within message i end l h)) (rw e (stops message i end l h))
+        let run = further message p (rw e (plain message i end l h)) in
+        ends message from end l start run (rw e (within message i end l h)) (rw e (stops message i end l h))

@@ -17,13 +17,7 @@ const SHORT: usize = 16;
 fn mark(b: u8, quote: u8) -> u8
     ensures { result ≡ mark_count quote b }
 {
-    if b == quote {
-        return 1;
-    }
-    if b == byte::BACKSLASH {
-        return 1;
-    }
-    0
+    u8::from(b == quote || b == byte::BACKSLASH)
 }
 
 // How many of a block's bytes end a run.
@@ -31,12 +25,9 @@ fn marks_in_block(message: &[u8], from: usize, quote: u8) -> u8
     requires { from + 48 ≤ length message.now }
     ensures { result ≡ 0 → Plain quote message.now from (from + 48) }
 {
-    let mut count = 0u8;
-    let mut i = 0;
-    while i < BLOCK {
-        let next = i + 1;
-        count += mark(message[from + i], quote);
-        i = next;
+    let mut count = 0;
+    for &b in &message[from..from + BLOCK] {
+        count += mark(b, quote);
     }
     count
 }
@@ -46,6 +37,7 @@ fn plain_blocks(message: &[u8], from: usize, end: usize, quote: u8) -> usize
     requires { (from ≤ end) × (end ≤ length message.now) }
     ensures { Plain quote message.now from result × (result ≤ end) }
 {
+    // no `chunks_exact`: the clauses of `marks_in_block` and of this function tell places in the message
     let mut i = from;
     while BLOCK <= end - i {
         if marks_in_block(message, i, quote) != 0 {
@@ -61,18 +53,13 @@ fn plain_until(message: &[u8], from: usize, end: usize, quote: u8) -> usize
     requires { (from ≤ end) × (end ≤ length message.now) }
     ensures { Plain quote message.now from result × (result ≤ end) × (result < end → is_mark quote (get_or message.now result 0) ≡ true) }
 {
-    let mut i = from;
-    while i < end {
+    for i in from..end {
         let b = message[i];
-        if b == quote {
+        if b == quote || b == byte::BACKSLASH {
             return i;
         }
-        if b == byte::BACKSLASH {
-            return i;
-        }
-        i += 1;
     }
-    i
+    end
 }
 
 // The first place from `from` on and before `end` at which the quote or a backslash stands, or `end`. It looks at blocks from the first byte on.

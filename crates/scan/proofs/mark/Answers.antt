@@ -1,16 +1,11 @@
--- `scan::mark` meets its contract: its two tests are the definition's.
-use Rattle.scan.specs.Plain.{mark_count}
-use Rattle.scan.proofs.Runs.{quote_is_mark, backslash-is_mark, no_mark}
+-- `scan::mark` meets its contract: its test is the definition's.
+use Rattle.std.proofs.Common.{arith}
+use Rattle.std.proofs.lemmas.Bool.Decides.{nat_tests}
+use Rattle.scan.specs.Plain.{is_mark, mark_count}
 use Rattle.scan.proofs.mark.Goals as goal
-
-pub returns-then-b-quote : goal.returns-then-b-quote
-unfolding mark_count
-returns-then-b-quote c = rw (quote_is_mark _ _ c.if-b-quote.true)
-
-pub returns-then-b-eq-BACKSLASH : goal.returns-then-b-eq-BACKSLASH
-unfolding mark_count
-returns-then-b-eq-BACKSLASH c = rw (backslash-is_mark _ _ c.if-b-eq-BACKSLASH.true)
+use Rattle.scan.proofs.mark.Goals.{then-b-quote, else-b-quote}
 
 pub returns : goal.returns
-unfolding mark_count
-returns c = rw (no_mark _ _ c.if-b-quote.false c.if-b-eq-BACKSLASH.false)
+unfolding is_mark mark_count
+returns c =
+    elim c.if-b-quote.branch [ then-b-quote w ↦ grind (arith, nat_tests) | else-b-quote w ↦ grind (arith, nat_tests) ]
