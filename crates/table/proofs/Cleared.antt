@@ -15,7 +15,8 @@ use Rattle.table.specs.Words.{stored_rows, cleared_from}
 use Rattle.table.proofs.Rows.{words_append}
 
 module _ (words : List ℕ) (from : ℕ) where
-  pub cleared-part : from ≤ length words → (part : List ℕ) → part ≡ zeroed (mid_of from (length words - from) words) → put_mid from (length words - from) words part ≡ cleared_from from words
+  pub cleared-part : from ≤ length words → (part : List ℕ) → part ≡ zeroed (mid_of from (length words - from) words)
+      → put_mid from (length words - from) words part ≡ cleared_from from words
   unfolding cleared_from zeroed
   cleared-part h part e = rw (e, Post-is from (length words) words h, drop-length, append-nil, mid_len from (length words) words (le_refl (length words))) refl
 

@@ -10,7 +10,7 @@ ghost use Rattle.table.specs.Words.{row_of, row_in, stored_rows, between, field_
 use format::{Depth, ROW_WORDS, Row, bound, kind};
 
 // The words of a row: its kind and the other three.
-#[derive(Clone, Copy)]
+#[derive(Clone, Copy, Default)]
 pub struct RowWords {
     pub kind: u32,
     pub first: u32,
@@ -25,15 +25,11 @@ pub const WORD_VALUES: u64 = 4294967296;
 pub const SIGN_BIT: u32 = 2147483648;
 
 // How many rows a table has room for.
+#[tactic(auto, unfolding(format::specs::Rows::row_room))]
 pub fn row_room(rows: &[u32]) -> usize
     ensures { result ≡ row_room rows.now }
 {
-    let whole = rows.len() / ROW_WORDS;
-    if whole < bound::ROWS {
-        whole
-    } else {
-        bound::ROWS
-    }
+    (rows.len() / ROW_WORDS).min(bound::ROWS)
 }
 
 // Stores a row's words from `at` on.
@@ -48,6 +44,7 @@ fn put(rows: &mut [u32], at: usize, words: RowWords)
 }
 
 // Stores row n, which the table has room for.
+#[tactic(auto, unfolding(format::specs::Rows::row_room))]
 pub fn store_row(rows: &mut [u32], n: Row, words: RowWords)
     requires { n.0 < row_room rows.old }
     ensures { rows.new ≡ stored_rows rows.old n.0 (row_of words ∷ []) }
@@ -56,6 +53,7 @@ pub fn store_row(rows: &mut [u32], n: Row, words: RowWords)
 }
 
 // Reads row n, which the table has room for.
+#[tactic(auto, unfolding(format::specs::Rows::row_room))]
 pub fn read_row(rows: &[u32], n: Row) -> RowWords
     requires { n.0 < row_room rows.now }
     ensures { row_of result ≡ row_in rows.now n.0 }
@@ -74,12 +72,7 @@ pub fn load_row(rows: &[u32], n: Row) -> RowWords
     ensures { row_of result ≡ row_in rows.now n.0 }
 {
     if row_room(rows) <= n.0 as usize {
-        return RowWords {
-            kind: 0,
-            first: 0,
-            second: 0,
-            third: 0,
-        };
+        return RowWords::default();
     }
     read_row(rows, n)
 }
@@ -89,13 +82,9 @@ fn put_fields(rows: &mut [u32], stack: &[u32], base: Depth, depth: Depth, end: R
     requires { (base.0 ≤ depth.0) × (depth.0 ≤ length stack.now) × (end.0 + 1 + (depth.0 - base.0) ≤ row_room rows.old) }
     ensures { rows.new ≡ sets rows.old ((end.0 + 1) * row_words) (words_of (field_rows end.0 (between stack.now base.0 depth.0))) }
 {
-    let low = base.0;
-    let mut high = depth.0;
     let mut rest = end.0;
-    while low < high {
-        let below = high - 1;
+    for &field in stack[base.0..depth.0].iter().rev() {
         let n = rest + 1;
-        let field = stack[below];
         put(
             rows,
             (n as usize) * ROW_WORDS,
@@ -106,12 +95,12 @@ fn put_fields(rows: &mut [u32], stack: &[u32], base: Depth, depth: Depth, end: R
                 third: 0,
             },
         );
-        high = below;
         rest = n;
     }
 }
 
 // Stores the rows of a tuple of the stack's values above `base` and up to `depth`, for all of which the table has room: its end as row `next`, then its fields.
+#[tactic(auto, unfolding(format::specs::Rows::row_room))]
 pub fn store_tuple(rows: &mut [u32], stack: &[u32], base: Depth, depth: Depth, next: Row)
     requires { (base.0 ≤ depth.0) × (depth.0 ≤ length stack.now) × (next.0 + 1 + (depth.0 - base.0) ≤ row_room rows.old) }
     ensures { rows.new ≡ stored_rows rows.old next.0 (tuple_rows next.0 (between stack.now base.0 depth.0)) }
@@ -121,9 +110,7 @@ pub fn store_tuple(rows: &mut [u32], stack: &[u32], base: Depth, depth: Depth, n
         (next.0 as usize) * ROW_WORDS,
         RowWords {
             kind: kind::END,
-            first: 0,
-            second: 0,
-            third: 0,
+            ..RowWords::default()
         },
     );
     put_fields(rows, stack, base, depth, next);
@@ -133,11 +120,7 @@ pub fn store_tuple(rows: &mut [u32], stack: &[u32], base: Depth, depth: Depth, n
 pub fn clear(words: &mut [u32])
     ensures { words.new ≡ zeroed words.old }
 {
-    let mut i = 0;
-    while i < words.len() {
-        words[i] = 0;
-        i += 1;
-    }
+    words.fill(0);
 }
 
 // Fills a table with zeros from word `from` on.
