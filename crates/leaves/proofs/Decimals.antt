@@ -25,7 +25,8 @@ enough zero g n rest h k = sym (digits_one g n rest (omega arith))
 enough (suc f) zero n rest h k = digits_one (suc f) n rest (omega arith)
 enough (suc f) (suc g) n rest h k = cases (ltb n 10) refl (enough f g (n / 10) ((code "0" + n % 10) ∷ rest))
   where
-    cases : (b : Bool) → ltb n 10 ≡ b → (n / 10 ≤ f → n / 10 ≤ g → digits_on f (n / 10) ((code "0" + n % 10) ∷ rest) ≡ digits_on g (n / 10) ((code "0" + n % 10) ∷ rest))
+    cases : (b : Bool) → ltb n 10 ≡ b
+        → (n / 10 ≤ f → n / 10 ≤ g → digits_on f (n / 10) ((code "0" + n % 10) ∷ rest) ≡ digits_on g (n / 10) ((code "0" + n % 10) ∷ rest))
         → digits_on (suc f) n rest ≡ digits_on (suc g) n rest
     cases true e next = rw (e, digits_on)
     cases false e next = rw (e, digits_on) (next (omega (arith, ltb-false n 10 e)) (omega (arith, ltb-false n 10 e)))
@@ -63,6 +64,6 @@ module _ (out : List ℕ) (at n : ℕ) {left : List ℕ} {next : ℕ} where
   pub stored_one : n < 10 → Stored out at ((code "0" + n) ∷ []) left next → Stored out at (natural_on n []) left next
   stored_one h e = rw (natural_one n h) e
 
-  pub stored_more : 10 ≤ n → {first : List ℕ} {last : ℕ} → Stored out at (natural_on (n / 10) []) first last → Stored first last ((code "0" + n % 10) ∷ []) left next
-      → Stored out at (natural_on n []) left next
+  pub stored_more : 10 ≤ n → {first : List ℕ} {last : ℕ} → Stored out at (natural_on (n / 10) []) first last
+      → Stored first last ((code "0" + n % 10) ∷ []) left next → Stored out at (natural_on n []) left next
   stored_more h d e = rw (natural-more n h) (stored-both out at (natural_on (n / 10) []) ((code "0" + n % 10) ∷ []) d e)

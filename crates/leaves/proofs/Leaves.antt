@@ -7,6 +7,7 @@ use mathlib.Core.Bool.{Bool, true, false}
 use mathlib.Core.List.{List, [], ◌∷◌, ◌++◌}
 use native.Mathlib.Nat.{eq-or-lt_of_le}
 use native.Mathlib.Omega.{arith}
+use Rattle.std.proofs.Common.{lit≤}
 use lib.ListN.{length, length-append}
 use lib.Seq.{sets}
 use lib.Dec.{eqb}
@@ -29,11 +30,13 @@ length-between quote bytes = omega (arith, length-append bytes (quote ∷ []))
 
 -- an integer by the halves of its two's complement
 module _ (high low : ℕ) where
-  pub positive : high < 2147483648 → low < 2 ^ 32 → integer_bytes false (high * 4294967296 + low) ≡ text_on (T.int (from_bits 64 (high * 2 ^ 32 + low))) []
+  pub positive : high < 2147483648 → low < 2 ^ 32
+      → integer_bytes false (high * 4294967296 + low) ≡ text_on (T.int (from_bits 64 (high * 2 ^ 32 + low))) []
   unfolding from_bits integer_bytes text_on decimal_on
   positive h l = rw (lt-ltb (high * 2 ^ 32 + low) (2 ^ 63) (omega arith))
 
-  pub negative : 2147483648 ≤ high → high * 4294967296 + low < 2 ^ 64 → integer_bytes true (18446744073709551615 - (high * 4294967296 + low) + 1) ≡ text_on (T.int (from_bits 64 (high * 2 ^ 32 + low))) []
+  pub negative : 2147483648 ≤ high → high * 4294967296 + low < 2 ^ 64
+      → integer_bytes true (18446744073709551615 - (high * 4294967296 + low) + 1) ≡ text_on (T.int (from_bits 64 (high * 2 ^ 32 + low))) []
   unfolding from_bits integer_bytes text_on decimal_on
   negative h b = rw (le-ltb (high * 2 ^ 32 + low) (2 ^ 63) (omega arith)) (ap (λ (n : ℕ). code "-" ∷ natural_on n (code " " ∷ [])) (omega arith))
 
@@ -56,12 +59,13 @@ module _ {negative : Bool} (n : ℕ) {digits : ℕ} (d : digits ≡ length (natu
 
 -- an integer stored: a minus where it is negative, and the magnitude with its blank
 module _ (out : List ℕ) (at n : ℕ) {left : List ℕ} {next : ℕ} where
-  pub stored_magnitude : {first : List ℕ} {end : ℕ} → Stored out at (natural_on n []) first end → Stored first end (code " " ∷ []) left next → Stored out at (integer_bytes false n) left next
+  pub stored_magnitude : {first : List ℕ} {end : ℕ} → Stored out at (natural_on n []) first end
+      → Stored first end (code " " ∷ []) left next → Stored out at (integer_bytes false n) left next
   unfolding integer_bytes
   stored_magnitude a b = rw (natural_onto n [] (code " " ∷ [])) (stored-both out at (natural_on n []) (code " " ∷ []) a b)
 
-  pub stored-negative : {negative : Bool} → negative ≡ true → {first : List ℕ} {digits : ℕ} → Stored out at (code "-" ∷ []) first digits → Stored first digits (integer_bytes false n) left next
-      → Stored out at (integer_bytes negative n) left next
+  pub stored-negative : {negative : Bool} → negative ≡ true → {first : List ℕ} {digits : ℕ} → Stored out at (code "-" ∷ []) first digits
+      → Stored first digits (integer_bytes false n) left next → Stored out at (integer_bytes negative n) left next
   unfolding integer_bytes
   stored-negative e a b = rw e (stored-both out at (code "-" ∷ []) (natural_on n (code " " ∷ [])) a b)
 
@@ -100,8 +104,8 @@ module _ (message : List ℕ) (k start n : ℕ) {quote : ℕ} (e : quote ≡ quo
   unfolding span_bytes
   length-bytes = rw e (length-append (count_bytes k n) (between (quote_of k) (span_of message start n) []))
 
-  pub stored_bytes : (out : List ℕ) (at : ℕ) {left : List ℕ} {next : ℕ} {first : List ℕ} {inner : ℕ} → Stored out at (count_bytes k n) first inner → Stored first inner quoted left next
-      → Stored out at (span_bytes message k start n) left next
+  pub stored_bytes : (out : List ℕ) (at : ℕ) {left : List ℕ} {next : ℕ} {first : List ℕ} {inner : ℕ} → Stored out at (count_bytes k n) first inner
+      → Stored first inner quoted left next → Stored out at (span_bytes message k start n) left next
   unfolding span_bytes
   stored_bytes out at a b = stored-both out at (count_bytes k n) (between (quote_of k) (span_of message start n) []) a (rw e at b)
 
@@ -118,7 +122,9 @@ abbrev pub SpanKind : ℕ → Type 0
 SpanKind k = (k ≡ atom_kind) ⊎ ((k ≡ string_kind) ⊎ (k ≡ binary_kind))
 
 pub span-kind : (k : ℕ) → atom_kind ≤ k → k ≤ binary_kind → SpanKind k
-span-kind k l u = ⊎_elim (λ e. inl (sym e)) (λ m. inr (⊎_elim (λ e. inl (sym e)) (λ n. inr (omega arith)) (eq-or-lt_of_le m))) (eq-or-lt_of_le l)
+span-kind k l u =
+    let later = λ (m : atom_kind < k). inr (⊎_elim (λ e. inl (sym e)) (λ n. inr (omega arith)) (eq-or-lt_of_le m)) in
+    ⊎_elim (λ e. inl (sym e)) later (eq-or-lt_of_le l)
 
 -- a leaf by its kind
 module _ (message : List ℕ) (r : Row) where
@@ -143,5 +149,7 @@ module _ (message : List ℕ) (r : Row) where
   pub end-leaf : (r.kind < integer_kind) ⊎ (nil_kind < r.kind) → leaf_bytes message r ≡ empty_tuple
   unfolding leaf_bytes is_span_kind
   end-leaf h =
-      let no : (j : ℕ) → integer_kind ≤ j → j ≤ nil_kind → eqb r.kind j ≡ false = λ j l u. ne_eqb r.kind j (λ e. ⊎_elim (λ x. omega arith) (λ x. omega arith) h) in
-      rw (no 1 (omega arith) (omega arith), no 2 (omega arith) (omega arith), no 3 (omega arith) (omega arith), no 4 (omega arith) (omega arith), no 5 (omega arith) (omega arith))
+      let no : (j : ℕ) → integer_kind ≤ j → j ≤ nil_kind → eqb r.kind j ≡ false =
+      λ j l u. ne_eqb r.kind j (λ e. ⊎_elim (λ x. omega arith) (λ x. omega arith) h)
+      in
+      rw (no 1 (lit≤ tt) (lit≤ tt), no 2 (lit≤ tt) (lit≤ tt), no 3 (lit≤ tt) (lit≤ tt), no 4 (lit≤ tt) (lit≤ tt), no 5 (lit≤ tt) (lit≤ tt))

@@ -1,11 +1,12 @@
 -- Bytes copied part by part: a byte or a block at a time, and at the end a block over bytes that stand already.
 use Prim.Native.Nat.{ℕ, zero, suc, ◌+◌, ◌-◌, ◌≤◌, ◌<◌}
 use mathlib.Core.Path.{◌≡◌, refl, sym, ◌∙◌}
-use mathlib.Core.List.{List, [], ◌∷◌, append-nil}
+use mathlib.Core.List.{List, [], ◌∷◌, append_assoc}
+use borrow.Rule.Slice.PartMut.{put_mid, Post-is}
 use native.Mathlib.Nat.{add-zero}
 use native.Mathlib.Omega.{arith}
-use lib.ListN.{length, take, drop, get_or, set, length-drop, take-append-drop, drop_of_length-le}
-use lib.Seq.{sets, take_all, take-take, length-take-le, drop-cons, drop-drop, set-set, set_comm, length-sets, sets-eq, get_or-take, get_or-drop}
+use lib.ListN.{length, take, drop, set, length-drop, take-append-drop}
+use lib.Seq.{sets, take_all, take-take, length-take-le, drop-drop, set-set, set_comm, length-sets, sets-eq}
 use Rattle.format.specs.Rows.{span_of}
 use Rattle.format.proofs.Lists.{length-span}
 use Rattle.leaves.proofs.Stores.{stores}
@@ -19,7 +20,9 @@ set-sets out p q b (a ∷ x) h = set-sets (set out q a) p (suc q) b x (omega ari
 over : (out : List ℕ) (p k : ℕ) (x : List ℕ) → sets (sets out (p + k) (drop k x)) p x ≡ sets out p x
 over out p zero [] = refl
 over out p (suc k) [] = refl
-over out p zero (b ∷ x) = rw (add-zero p, set-sets (set out p b) p (suc p) b x (omega arith), set-set out p b b) (rw (add-zero (suc p)) at (over (set out p b) (suc p) zero x))
+over out p zero (b ∷ x) =
+    rw (add-zero p, set-sets (set out p b) p (suc p) b x (omega arith), set-set out p b b)
+    (rw (add-zero (suc p)) at (over (set out p b) (suc p) zero x))
 over out p (suc k) (b ∷ x) =
     let to : p + suc k ≡ suc p + k = omega arith in
     rw (to, set-sets out p (suc p + k) b (drop k x) (omega arith)) (over (set out p b) (suc p) k x)
@@ -30,11 +33,11 @@ again out at zero x = rw (add-zero at) (rw (add-zero at) at (over out at zero x)
 again out at (suc d) [] = refl
 again out at (suc d) (b ∷ x) = let to : at + suc d ≡ suc at + d = omega arith in rw to (again (set out at b) (suc at) d x)
 
--- a list stored over all of an output
-whole : (out x : List ℕ) → length out ≡ length x → sets out 0 x ≡ x
-whole out x e =
-    let none : drop (0 + length x) out ≡ [] = drop_of_length-le out {i = 0 + length x} (omega arith) in
-    sets-eq x out 0 (omega arith) ∙ rw none (append-nil x)
+-- a part written over, as a list stored
+pub part_stored : (out x part : List ℕ) (at w : ℕ) → part ≡ x → w ≡ length x → at + w ≤ length out
+    → put_mid at (at + w - at) out part ≡ sets out at x
+part_stored out x part at w e size h =
+    rw (e, Post-is at (at + w) out (omega arith), sets-eq x out at (omega arith), ← size, append_assoc)
 
 module _ (x : List ℕ) (at : ℕ) (first : List ℕ) where
   -- i bytes of x are copied: what is left of x, stored into the output as it is, is x stored into the output as it was at first
@@ -56,14 +59,6 @@ module _ (x : List ℕ) (at : ℕ) (first : List ℕ) where
           same = rw e (length-sets out (at + i) block) ∙ c.same;
           left = rw (e, to, ← drop-drop w i x, stores out (at + i) block (drop w (drop i x)), take-append-drop w (drop i x)) c.left;
         }
-
-    -- a byte more
-    pub copies_one : {p b : ℕ} → p ≡ at + i → b ≡ get_or x i 0 → i < length x → Copying (set out p b) (i + 1)
-    copies_one e f h = copies 1 (omega arith) (rw (e, f, drop-cons x i 0 h))
-
-    -- nothing is left
-    pub ends : length x ≤ i → out ≡ sets first at x
-    ends h = rw (drop_of_length-le x h) at c.left
 
     -- the last block, from d on, is stored over bytes that stand already
     ends-over : (d w : ℕ) {out' : List ℕ} → d ≤ i → length x ≡ d + w → out' ≡ sets out (at + d) (take w (drop d x)) → out' ≡ sets first at x
@@ -91,24 +86,15 @@ module _ (message : List ℕ) (start n : ℕ) where
   block_of : (i w : ℕ) → i + w ≤ n → span_of message (start + i) w ≡ take w (drop i span)
   block_of i w h = rw (part_of_front i w n (drop start message) h, drop-drop i start message)
 
-  byte_of : (i : ℕ) → i < n → get_or message (start + i) 0 ≡ get_or span i 0
-  byte_of i h = rw (get_or-take n (drop start message) i 0 h, get_or-drop start message i 0)
-
   -- it lies in the message, from which it is copied
   module _ (inside : start + n ≤ length message) where
     module _ (at : ℕ) (first : List ℕ) {out : List ℕ} {i : ℕ} (c : Copying span at first out i) where
-      pub copies_byte : {p : ℕ} → p ≡ at + i → i < n → Copying span at first (set out p (get_or message (start + i) 0)) (i + 1)
-      copies_byte e h = copies_one span at first c e (byte_of i h) (rw (length-span message start n inside) h)
-
-      pub ends-bytes : n ≤ i → out ≡ sets first at span
-      ends-bytes h = ends span at first c (rw (length-span message start n inside) h)
-
-      pub copies_block : (w : ℕ) {block out' : List ℕ} → i + w ≤ n → block ≡ span_of message (start + i) w → out' ≡ sets out (at + i) block → Copying span at first out' (i + w)
+      pub copies_block : (w : ℕ) {block out' : List ℕ} → i + w ≤ n → block ≡ span_of message (start + i) w
+          → out' ≡ sets out (at + i) block → Copying span at first out' (i + w)
       copies_block w h b e = copies span at first c w (rw (length-span message start n inside) h) (rw (b, block_of i w h) at e)
 
-      pub ends_block : (d w : ℕ) {block out' : List ℕ} → d ≤ i → d + w ≡ n → block ≡ span_of message (start + d) w → out' ≡ sets out (at + d) block → out' ≡ sets first at span
-      ends_block d w h m b e = ends-over span at first c d w h (length-span message start n inside ∙ sym m) (rw (b, block_of d w (omega arith)) at e)
-
-    -- a block that holds the span alone
-    pub ends-whole : (first : List ℕ) {block : List ℕ} {i : ℕ} → Copying span 0 first block i → length first ≡ n → n ≤ i → block ≡ span
-    ends-whole first c size h = ends-bytes 0 first c h ∙ whole first span (size ∙ sym (length-span message start n inside))
+      pub ends_block : (d w : ℕ) {block out' : List ℕ} → d ≤ i → d + w ≡ n → block ≡ span_of message (start + d) w
+          → out' ≡ sets out (at + d) block → out' ≡ sets first at span
+      ends_block d w h m b e =
+          let size = length-span message start n inside in
+          ends-over span at first c d w h (size ∙ sym m) (rw (b, block_of d w (omega arith)) at e)

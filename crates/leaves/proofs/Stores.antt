@@ -17,5 +17,6 @@ abbrev pub Stored : List ℕ → ℕ → List ℕ → List ℕ → ℕ → Type 
 Stored out at x left next = (left ≡ sets out at x) × (next ≡ at + length x)
 
 -- x stored, and then y after it
-pub stored-both : (out : List ℕ) (at : ℕ) (x y : List ℕ) {mid left : List ℕ} {m next : ℕ} → Stored out at x mid m → Stored mid m y left next → Stored out at (x ++ y) left next
+pub stored-both : (out : List ℕ) (at : ℕ) (x y : List ℕ) {mid left : List ℕ} {m next : ℕ}
+    → Stored out at x mid m → Stored mid m y left next → Stored out at (x ++ y) left next
 stored-both out at x y a b = (b.0 ∙ rw (a.0, a.1) (stores out at x y), omega (arith, a.1, b.1, length-append x y))

@@ -89,6 +89,7 @@ pub fn put_quoted(
 }
 
 // What stands before and after the bytes of an atom, a string or a binary.
+#[tactic(auto, unfolding(crate::specs::Leaves::quote_of))]
 fn quote_of(k: u32) -> u8
     ensures { result ≡ quote_of k }
 {
@@ -124,13 +125,11 @@ fn put_bytes(message: &[u8], output: &mut [u8], at: usize, k: u32, start: Offset
 }
 
 // Whether a row of this kind is a leaf.
+#[tactic(auto, unfolding(crate::specs::Leaves::is_leaf_kind))]
 pub fn is_leaf(k: u32) -> bool
     ensures { result ≡ is_leaf_kind k }
 {
-    if k <= kind::NIL {
-        return true;
-    }
-    k == kind::END
+    k <= kind::NIL || k == kind::END
 }
 
 // Stores the integer of a row from `at` on, and answers the place after it.

@@ -15,12 +15,7 @@ fn load_block(message: &[u8], from: usize) -> [u8; 8]
     ensures { result ≡ span_of message.now from 8 }
 {
     let mut block = [0; 8];
-    let mut i = 0;
-    while i < BLOCK {
-        let next = i + 1;
-        block[i] = message[from + i];
-        i = next;
-    }
+    block.copy_from_slice(&message[from..from + BLOCK]);
     block
 }
 
@@ -29,12 +24,7 @@ fn store_block(output: &mut [u8], at: usize, block: [u8; 8])
     requires { at + 8 ≤ length output.old }
     ensures { output.new ≡ sets output.old at block }
 {
-    let mut i = 0;
-    while i < BLOCK {
-        let next = i + 1;
-        output[at + i] = block[i];
-        i = next;
-    }
+    output[at..at + BLOCK].copy_from_slice(&block);
 }
 
 // Stores n bytes of the message by blocks. The last block ends where they end, over bytes that may be stored already.
@@ -43,11 +33,8 @@ fn put_by_blocks(message: &[u8], from: usize, n: usize, output: &mut [u8], at: u
     ensures { output.new ≡ sets output.old at (span_of message.now from n) }
 {
     let last = n - BLOCK;
-    let mut i = 0;
-    while i < last {
-        let next = i + BLOCK;
+    for i in (0..last).step_by(BLOCK) {
         store_block(output, at + i, load_block(message, from + i));
-        i = next;
     }
     store_block(output, at + last, load_block(message, from + last));
 }
@@ -57,11 +44,8 @@ fn put_by_one(message: &[u8], from: usize, n: usize, output: &mut [u8], at: usiz
     requires { (from + n ≤ length message.now) × (at + n ≤ length output.old) }
     ensures { output.new ≡ sets output.old at (span_of message.now from n) }
 {
-    let mut i = 0;
-    while i < n {
-        let next = i + 1;
+    for i in 0..n {
         output[at + i] = message[from + i];
-        i = next;
     }
 }
 

@@ -19,7 +19,9 @@ put_natural-put_digit-requires-2 t c = omega (arith, length_more _ c.if-n-lt10.f
 
 pub put_natural-returns : goal.put_natural-returns
 put_natural-returns t c =
-    let all = stored_more _ _ _ c.if-n-lt10.false (c.put_tenth-last.ensures.output_after, c.put_tenth-last.ensures.value) (c.put_digit-2.ensures.output_after, c.put_digit-2.ensures.value) in
+    let tenth = c.put_tenth-last.ensures in
+    let digit = c.put_digit-2.ensures in
+    let all = stored_more _ _ _ c.if-n-lt10.false (tenth.output_after, tenth.value) (digit.output_after, digit.value) in
     record { output_after = all.0; value = all.1 }
 
 pub put_tenth-put_digit-requires : goal.put_tenth-put_digit-requires
@@ -38,5 +40,7 @@ put_tenth-put_digit-requires-2 t c = omega (arith, length_more _ c.if-n-lt10.fal
 
 pub put_tenth-returns : goal.put_tenth-returns
 put_tenth-returns t c =
-    let all = stored_more _ _ _ c.if-n-lt10.false (c.put_natural-last.ensures.output_after, c.put_natural-last.ensures.value) (c.put_digit-2.ensures.output_after, c.put_digit-2.ensures.value) in
+    let tenth = c.put_natural-last.ensures in
+    let digit = c.put_digit-2.ensures in
+    let all = stored_more _ _ _ c.if-n-lt10.false (tenth.output_after, tenth.value) (digit.output_after, digit.value) in
     record { output_after = all.0; value = all.1 }

@@ -12,7 +12,11 @@ pub loop-rest-preserved : goal.loop-rest-preserved
 loop-rest-preserved c = omega (arith, length-more_two _ c.loop-rest-test.true)
 
 pub returns-then-rest-lt10 : goal.returns-then-rest-lt10
-returns-then-rest-lt10 c = record { value = omega (arith, length_one _ c.if-rest-lt10.true); upper_bound = omega (arith, length_one _ c.if-rest-lt10.true) }
+returns-then-rest-lt10 c =
+    let one = length_one _ c.if-rest-lt10.true in
+    record { value = omega arith; upper_bound = omega arith }
 
 pub returns : goal.returns
-returns c = record { value = omega (arith, length_two _ c.if-rest-lt10.false c.loop-rest-test.false); upper_bound = omega (arith, length_two _ c.if-rest-lt10.false c.loop-rest-test.false) }
+returns c =
+    let two = length_two _ c.if-rest-lt10.false c.loop-rest-test.false in
+    record { value = omega arith; upper_bound = omega arith }

@@ -11,11 +11,7 @@ put_magnitude-requires c = omega (arith, length-negative c.args.n c.if-negative.
 
 pub returns-then-negative : goal.returns-then-negative
 returns-then-negative c =
-    let all = stored-negative _ _ _ c.if-negative.true (c.put_byte-digits.ensures.output_after, c.put_byte-digits.ensures.value) (c.put_magnitude.ensures.output_after, c.put_magnitude.ensures.value) in
+    let minus = c.put_byte-digits.ensures in
+    let digits = c.put_magnitude.ensures in
+    let all = stored-negative _ _ _ c.if-negative.true (minus.output_after, minus.value) (digits.output_after, digits.value) in
     record { output_after = all.0; value = all.1 }
-
-pub put_magnitude-requires-2 : goal.put_magnitude-requires-2
-put_magnitude-requires-2 c = rw c.if-negative.false at c.requires
-
-pub returns : goal.returns
-returns c = record { output_after = rw c.if-negative.false c.put_magnitude-2.ensures.output_after; value = rw c.if-negative.false c.put_magnitude-2.ensures.value }
