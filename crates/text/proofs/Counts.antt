@@ -3,6 +3,7 @@ use Prim.Native.Nat.{ℕ, suc, ◌+◌, ◌-◌, ◌^◌, ◌≤◌, ◌<◌}
 use Prim.Native.Char.{code}
 use mathlib.Core.Path.{◌≡◌, refl, ap, sym, ◌∙◌}
 use mathlib.Core.Bool.{Bool, true, false}
+use mathlib.Core.Logic.{◌⊎◌, inl, inr}
 use mathlib.Core.List.{List, [], ◌∷◌, ◌++◌}
 use native.Mathlib.Nat.{pow-suc, one-le-pow, pow-le-pow_right}
 use native.Mathlib.Numerals.{add-one}
@@ -11,14 +12,19 @@ use lib.ListN.{length, get_or, set, length-set}
 use lib.Dec.{T, leb, ltb}
 use borrow.Author.Tests.{le-leb, lt-leb, leb-true, leb-false}
 use Rattle.format.specs.Bound.{row_bound}
-use Rattle.format.specs.Rows.{Row, row_at, rows_of, row_room, term_at}
+use Rattle.format.specs.Rows.{Row, row_at, rows_of, row_room, term_at, cons_kind, field_kind}
 use Rattle.format.specs.Sound.{sound_rows, sound_table}
 use Rattle.format.specs.Text.{plain}
 use Rattle.format.proofs.TableRows.{length-rows, judged, Passed, passed}
 use Rattle.table.specs.Words.{last_first, row_in}
 use Rattle.table.proofs.Rows.{row_of, pushed, length-last_first}
 use Rattle.measure.specs.Lengths.{text_length, named, own_length, total, row_length}
-use Rattle.measure.proofs.Lengths.{text-after, by_names, right}
+use Rattle.measure.proofs.Lengths.{names-cell, names_field, text-after, by_names, right}
+
+-- a list cell and a tuple's field name two rows
+pub names-two : (r : Row) → (r.kind ≡ cons_kind) ⊎ (r.kind ≡ field_kind) → named r ≡ r.first ∷ r.second ∷ []
+names-two r (inl k) = names-cell r k
+names-two r (inr k) = names_field r k
 
 -- one row or two in place of the top
 module _ (stack : List ℕ) (top : ℕ) where

@@ -34,9 +34,9 @@ module _ (output : List ℕ) (at : ℕ) (r : Row) where
   unfolding open_bytes first_named
   field_begun k s = (rw k s.0, (rw k s.1, rw k))
 
-  pub cell-begun : (r.kind ≡ field_kind → ⊥) → r.kind ≡ cons_kind → Begun output at r.second
+  pub cell-begun : r.kind ≡ cons_kind → Begun output at r.second
   unfolding open_bytes first_named
-  cell-begun n k = (rw k, (rw k (omega arith), rw k))
+  cell-begun k = (rw k, (rw k (omega arith), rw k))
 
   pub tag-begun : (r.kind ≡ field_kind → ⊥) → (r.kind ≡ cons_kind → ⊥) → Begun output at r.third
   unfolding open_bytes first_named

@@ -4,27 +4,45 @@ use Prim.Native.Char.{code}
 use mathlib.Core.Path.{◌≡◌, refl, ap, sym, ◌∙◌}
 use mathlib.Core.Bool.{true}
 use mathlib.Core.List.{List, [], ◌∷◌, ◌++◌}
+use native.Mathlib.Numerals.{add-one}
 use native.Mathlib.Omega.{arith}
-use lib.ListN.{length, set, get_or, length-set}
+use lib.ListN.{length, set, length-set}
 use lib.Dec.{T}
-use lib.Seq.{sets, length-sets, get_or-set_same}
+use lib.Seq.{sets, length-sets}
 use Rattle.format.specs.Text.{text_on}
 use Rattle.format.specs.Rows.{Row, row_at, rows_of, row_room, term_at, is_tuple_kind, field_kind}
 use Rattle.format.specs.Sound.{sound_rows}
 use Rattle.table.specs.Words.{last_first, row_in}
-use Rattle.table.proofs.Rows.{row_of, kept}
-use Rattle.text.specs.declared.walk.After.{After}
-use Rattle.text.specs.declared.walk.After.TheVariants.{Into, Done}
+use Rattle.table.proofs.Rows.{row_of, pushed}
+use Rattle.std.specs.Prelude.{Some, None, MatchOption}
+use Rattle.text.specs.declared.walk.Place.{Place}
 use Rattle.leaves.specs.Leaves.{is_leaf_kind, leaf_bytes, Inside}
-use Rattle.text.specs.Walk.{frame_row, frame_on, pending, coming, coming_fields, of_field, Above, Room, place_after, coming_after, ReadyAfter, Partly}
+use Rattle.text.specs.Walk.{frame_row, frame_on, pending, coming, coming_fields, of_field, Above, Falling, Room, coming_next, ReadyNext, Partly}
 use Rattle.text.proofs.Partly.{part_none, part_then, part_room, put_fits, part_put}
 use Rattle.text.proofs.Frames as F
 use Rattle.text.proofs.Frames.{above-inside, above-room, above_lower, falling_below, row-bound, row-frame, leaf-inside, field_names, field_rest, more_fields, no_fields, field_frame}
 
--- what a turn of the frame at `top` leaves, after which the answer is a
+-- what a turn of the frame at `top` leaves
 module _ (message words : List ℕ) (used top : ℕ) (output₀ : List ℕ) (end₀ : ℕ) (text₀ : List ℕ) where
-  abbrev pub Turned : After → List ℕ → List ℕ → Type 0
-  Turned a stack output = ReadyAfter message words used a stack top × Partly output₀ end₀ text₀ output (place_after message words used a) (coming_after message words used a stack top)
+  pub record Turned (p : Place) (stack output : List ℕ) : Type 0 where
+    pub depth : MatchOption p.next (p.depth ≡ top) (λ row. p.depth ≡ top + 1)
+    pub ready_next : ReadyNext message words used p.next (last_first stack p.depth)
+    pub partly : Partly output₀ end₀ text₀ output p.at (coming_next message words used p.next (last_first stack p.depth))
+
+  -- the frame is done
+  pub turned-done : {stack output : List ℕ} {at : ℕ} → Falling message words used (last_first stack top) → Partly output₀ end₀ text₀ output at (pending message words used (last_first stack top))
+      → Turned (record { next = None; depth = top; at = at }) stack output
+  unfolding ReadyNext coming_next
+  turned-done f p = record { depth = refl; ready_next = f; partly = p }
+
+  -- a row comes next, above the frame e
+  pub turned-above : (stack : List ℕ) {output : List ℕ} {row e at : ℕ} → top < length stack → Above message words used row (e ∷ last_first stack top)
+      → Partly output₀ end₀ text₀ output at (coming message words used row (e ∷ last_first stack top))
+      → Turned (record { next = Some (record { 0 = row }); depth = top + 1; at = at }) (set stack top e) output
+  unfolding ReadyNext coming_next
+  turned-above stack {e = e} h a p =
+      let stacked : last_first (set stack top e) (top + 1) ≡ e ∷ last_first stack top = rw add-one (pushed stack top e h) in
+      record { depth = refl; ready_next = rw stacked a; partly = rw stacked p }
 
 -- the stack, the output, the first field's row and where the text goes on, at first
 module _ (message words stack₀ output₀ : List ℕ) (top n₀ end₀ : ℕ) where
@@ -99,16 +117,14 @@ module _ (message words stack₀ output₀ : List ℕ) (top n₀ end₀ : ℕ) w
         text = rw w.read (more_fields message words used w.fits w.sound n inside (code "}" ∷ pending message words used below) is_field)
 
         -- it is no leaf: it comes next, above the frame of its row
-        pub into : top < used → Turned message words used top output₀ end₀ text₀ (Into (record { 0 = r.first }) end) (set stack top n) output
-        unfolding ReadyAfter place_after coming_after pending
+        pub into : top < used → Turned message words used top output₀ end₀ text₀ (record { next = Some (record { 0 = r.first }); depth = top + 1; at = end }) (set stack top n) output
+        unfolding pending
         into h =
             let self : frame_row n ≡ n = row-frame n (row-bound message words used w.fits w.sound n inside) in
-            let top-is : get_or (set stack top n) top 0 ≡ n = get_or-set_same stack top n 0 (rw w.same h) in
-            let below-is : last_first (set stack top n) top ≡ below = kept stack top top n (omega arith) ∙ ap (λ (s : List ℕ). last_first s top) w.same in
             let frame : frame_on message words used n (pending message words used below) ≡ coming_fields message words used r.second below
             = rw w.read (field_frame message words used w.fits w.sound n inside (pending message words used below) n self is_field) in
             let ahead : coming message words used r.first (n ∷ below) ≡ coming_fields message words used n below = ap (text_on (term_at message (rows_of used words) r.first)) frame ∙ sym text in
-            rw (top-is, below-is) (rw self (earlier.0, (of_field (rw (self, is_field)), w.above)), rw ahead w.part)
+            rw w.same (turned-above message words used top output₀ end₀ text₀ stack₀ h (rw self (earlier.0, (of_field (rw (self, is_field)), w.above))) (rw ahead w.part))
 
         -- it is a leaf
         module _ (leaf : is_leaf_kind f.kind ≡ true) where
@@ -149,6 +165,7 @@ module _ (message words stack₀ output₀ : List ℕ) (top n₀ end₀ : ℕ) w
       pub close_fits : end < length output
       close_fits = omega (arith, put_fits output end _ (code "}" ∷ []) _ last w.room)
 
-      pub closed : (output' : List ℕ) (end' : ℕ) → (output' ≡ set output end (code "}")) × (end' ≡ end + 1) → Turned message words used top output₀ end₀ text₀ (Done end') stack output'
-      unfolding ReadyAfter place_after coming_after
-      closed output' end' s = rw w.same (falling_below message words used n below w.above, part_then output₀ end₀ text₀ w.part (part_put output end _ (code "}" ∷ []) _ last s))
+      pub closed : (output' : List ℕ) (end' : ℕ) → (output' ≡ set output end (code "}")) × (end' ≡ end + 1)
+          → Turned message words used top output₀ end₀ text₀ (record { next = None; depth = top; at = end' }) stack output'
+      closed output' end' s =
+          rw w.same (turned-done message words used top output₀ end₀ text₀ (falling_below message words used n below w.above) (part_then output₀ end₀ text₀ w.part (part_put output end _ (code "}" ∷ []) _ last s)))

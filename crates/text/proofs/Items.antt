@@ -6,19 +6,19 @@ use mathlib.Core.Bool.{true}
 use mathlib.Core.List.{List, [], ◌∷◌, ◌++◌}
 use native.Mathlib.Omega.{arith}
 use lib.ListN.{length, set, get_or}
-use lib.Seq.{sets, length-sets, get_or-set_same}
+use lib.Seq.{sets, length-sets}
 use Rattle.format.specs.Bound.{row_bound}
 use Rattle.format.specs.Text.{text_on}
 use Rattle.format.specs.Rows.{Row, row_at, rows_of, row_room, term_at, cons_kind}
 use Rattle.table.specs.Words.{last_first, row_in}
-use Rattle.table.proofs.Rows.{row_of, kept}
-use Rattle.text.specs.declared.walk.After.TheVariants.{Into, Done}
+use Rattle.table.proofs.Rows.{row_of}
+use Rattle.std.specs.Prelude.{Some, None}
 use Rattle.leaves.specs.Leaves.{is_leaf_kind, leaf_bytes, Inside}
-use Rattle.text.specs.Walk.{frame_row, frame_on, pending, coming, of_cell, Falling, Room, place_after, coming_after, ReadyAfter}
+use Rattle.text.specs.Walk.{frame_row, frame_on, pending, coming, of_cell, Falling, Room}
 use Rattle.text.proofs.Partly.{part_none, part_then, part_room, put_fits, part_put}
 use Rattle.text.proofs.Frames as F
 use Rattle.text.proofs.Frames.{above-inside, above-room, falling_below, row-frame, begun-frame, leaf-inside, cell-names, item-frame, begun-item_frame}
-use Rattle.text.proofs.Fields.{Turned}
+use Rattle.text.proofs.Fields.{Turned, turned-done, turned-above}
 
 -- the frame e at `top` of the stack is that of a list cell with this item
 module _ (message words stack output : List ℕ) (top at item : ℕ) where
@@ -74,9 +74,8 @@ module _ (message words stack output : List ℕ) (top at item : ℕ) where
       pub begun-fits : at < length output
       begun-fits = omega (arith, put_fits output at text₀ (code "&" ∷ []) _ last room.room)
 
-      pub begun-done : (output' : List ℕ) (at' : ℕ) → (output' ≡ set output at (code "&")) × (at' ≡ at + 1) → Turned message words used top output at text₀ (Done at') stack output'
-      unfolding ReadyAfter place_after coming_after
-      begun-done output' at' s = (falling_below message words used i below falls.1, part_put output at text₀ (code "&" ∷ []) _ last s)
+      pub begun-done : (output' : List ℕ) (at' : ℕ) → (output' ≡ set output at (code "&")) × (at' ≡ at + 1) → Turned message words used top output at text₀ (record { next = None; depth = top; at = at' }) stack output'
+      begun-done output' at' s = turned-done message words used top output at text₀ (falling_below message words used i below falls.1) (part_put output at text₀ (code "&" ∷ []) _ last s)
 
     -- its item is still to come, and has the words f
     module _ (h : e < row_bound) (f : Row) (g : f ≡ row_in words item) where
@@ -104,21 +103,18 @@ module _ (message words stack output : List ℕ) (top at item : ℕ) where
               let put = part_put output at text₀ (leaf_bytes message f) _ leaf-text s in
               omega (arith, part_room output at text₀ put (rw s.0 (length-sets output at (leaf_bytes message f))) room.room)
 
-          pub item-done : (output'' : List ℕ) (at'' : ℕ) → (output'' ≡ set output' at' (code "&")) × (at'' ≡ at' + 1) → Turned message words used top output at text₀ (Done at'') stack output''
-          unfolding ReadyAfter place_after coming_after
+          pub item-done : (output'' : List ℕ) (at'' : ℕ) → (output'' ≡ set output' at' (code "&")) × (at'' ≡ at' + 1) → Turned message words used top output at text₀ (record { next = None; depth = top; at = at'' }) stack output''
           item-done output'' at'' t =
               let put = part_put output at text₀ (leaf_bytes message f) _ leaf-text s in
-              (falling_below message words used i below falls.1, part_then output at text₀ put (part_put output' at' (code "&" ∷ more) (code "&" ∷ []) more refl t))
+              turned-done message words used top output at text₀ (falling_below message words used i below falls.1) (part_then output at text₀ put (part_put output' at' (code "&" ∷ more) (code "&" ∷ []) more refl t))
 
       -- another row comes next, and the item is begun
-      pub into : top < used → Turned message words used top output at text₀ (Into (record { 0 = item }) at) (set stack top (e + row_bound)) output
-      unfolding ReadyAfter place_after coming_after pending
+      pub into : top < used → Turned message words used top output at text₀ (record { next = Some (record { 0 = item }); depth = top + 1; at = at }) (set stack top (e + row_bound)) output
+      unfolding pending
       into t =
           let same : i ≡ e = row-frame e h in
           let begun : frame_row (e + row_bound) ≡ i = begun-frame e h ∙ sym same in
-          let top-is : get_or (set stack top (e + row_bound)) top 0 ≡ e + row_bound = get_or-set_same stack top (e + row_bound) 0 t in
-          let below-is : last_first (set stack top (e + row_bound)) top ≡ below = kept stack top top (e + row_bound) (omega arith) in
           let frame : frame_on message words used (e + row_bound) more ≡ code "&" ∷ more
           = begun-item_frame message words used room.fits room.sound i inside more (e + row_bound) begun is-cell (omega arith) in
           let ahead : coming message words used item ((e + row_bound) ∷ below) ≡ text₀ = ap (text_on (term_at message (rows_of used words) item)) frame ∙ sym text in
-          rw (top-is, below-is) (rw begun (earlier, (of_cell (rw (begun, is-cell)), falls.1)), rw ahead (part_none output at text₀))
+          turned-above message words used top output at text₀ stack t (rw begun (earlier, (of_cell (rw (begun, is-cell)), falls.1))) (rw ahead (part_none output at text₀))

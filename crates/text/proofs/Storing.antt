@@ -2,7 +2,6 @@
 use Prim.Native.Nat.{ℕ, ◌+◌, ◌-◌, ◌≤◌, ◌<◌}
 use Prim.Native.Char.{code}
 use mathlib.Core.Path.{◌≡◌, refl, ◌∙◌}
-use mathlib.Core.Bool.{Bool, true, false}
 use mathlib.Core.List.{List, [], ◌∷◌, ◌++◌}
 use native.Mathlib.Nat.{zero-add}
 use native.Mathlib.Omega.{arith}
@@ -15,11 +14,10 @@ use Rattle.format.specs.Text.{plain}
 use Rattle.format.specs.declared.Row as D
 use Rattle.format.proofs.TableRows.{passed}
 use Rattle.table.specs.Words.{last_first}
-use Rattle.text.specs.declared.walk.Rest.{Rest}
-use Rattle.text.specs.declared.walk.Rest.TheVariants as R
-use Rattle.text.specs.Walk.{pending, coming, Above, Falling, Room, place_rest, coming_rest, ReadyRest, Partly}
+use Rattle.std.specs.Prelude.{Some, None}
+use Rattle.text.specs.declared.walk.Place.{Place}
+use Rattle.text.specs.Walk.{pending, coming, Above, Room, coming_next, ReadyNext, Partly}
 use Rattle.text.proofs.Partly.{part_none, part_then, part_room}
-use Rattle.text.proofs.Passes.{Risen}
 
 -- the stack and the output at first, and the root
 module _ (message words stack₀ output₀ : List ℕ) (root : ℕ) where
@@ -29,26 +27,22 @@ module _ (message words stack₀ output₀ : List ℕ) (root : ℕ) where
   abbrev text₀ : List ℕ
   text₀ = plain (term_at message (rows_of used words) root)
 
-  -- what is still to come where there is more: a row, above these frames; else only `$`
-  unfoldable pub left : Bool → ℕ → List ℕ → List ℕ
-  left true row frames = coming message words used row frames
-  left false row frames = code "$" ∷ []
+  -- what is still to come from a place on
+  abbrev text_from : Place → List ℕ → List ℕ
+  text_from p stack = coming_next message words used p.next (last_first stack p.depth)
 
-  unfoldable pub Ready : Bool → ℕ → List ℕ → Type 0
-  Ready true row frames = Above message words used row frames
-  Ready false row frames = Unit {0}
-
-  pub record Storing (stack output : List ℕ) (more : Bool) (row depth at : ℕ) : Type 0 where
+  pub record Storing (stack output : List ℕ) (p : Place) : Type 0 where
     pub fits : used ≤ row_room words
     pub sound : T (sound_rows message (rows_of used words))
     pub same : length stack ≡ used
     pub same-output : length output ≡ length output₀
-    pub ready : Ready more row (last_first stack depth)
-    pub room : at + length (left more row (last_first stack depth)) ≤ length output
-    pub part : Partly output₀ 0 text₀ output at (left more row (last_first stack depth))
+    pub whole : p.next ≡ None → p.depth ≡ 0
+    pub ready : ReadyNext message words used p.next (last_first stack p.depth)
+    pub room : p.at + length (text_from p stack) ≤ length output
+    pub part : Partly output₀ 0 text₀ output p.at (text_from p stack)
 
-  pub begins : T (sound_table message words used root) → length text₀ ≤ length output₀ → Storing stack₀ output₀ true root 0 0
-  unfolding plain pending last_first left Ready
+  pub begins : T (sound_table message words used root) → length text₀ ≤ length output₀ → Storing stack₀ output₀ (record { next = Some (record { 0 = root }); depth = 0; at = 0 })
+  unfolding plain pending last_first coming_next ReadyNext
   begins s h =
       let tested = passed message words used root s in
       record {
@@ -56,96 +50,79 @@ module _ (message words stack₀ output₀ : List ℕ) (root : ℕ) where
         sound = tested.rows;
         same = refl;
         same-output = refl;
+        whole = λ e. refl;
         ready = tested.among;
         room = omega arith;
         part = part_none output₀ 0 text₀;
       }
 
-  module _ (stack output : List ℕ) (row depth at : ℕ) where
-    pub known : {more b : Bool} → more ≡ b → Storing stack output more row depth at → Storing stack output b row depth at
-    known e w = rw e at w
-
+  module _ (stack output : List ℕ) (p : Place) (w : Storing stack output p) where
     -- a row comes next
-    module _ (w : Storing stack output true row depth at) where
+    module _ (row : D.Row) (some : p.next ≡ Some row) where
       abbrev frames : List ℕ
-      frames = last_first stack depth
+      frames = last_first stack p.depth
 
-      room-first : at + length (coming message words used row frames) ≤ length output
-      unfolding left
-      room-first = w.room
+      text-first : text_from p stack ≡ coming message words used row.0 frames
+      unfolding coming_next
+      text-first = rw some
 
-      pub first_fits : Above message words (length stack) row frames × Room message words (length stack) (coming message words (length stack) row frames) output at
-      unfolding Ready
-      first_fits = rw w.same (w.ready, record { fits = w.fits; sound = w.sound; room = room-first })
+      pub first_fits : Above message words (length stack) row.0 frames × Room message words (length stack) (coming message words (length stack) row.0 frames) output p.at
+      unfolding ReadyNext
+      first_fits = rw w.same (rw some at w.ready, record { fits = w.fits; sound = w.sound; room = rw text-first at w.room })
 
       -- its first leaf is stored
-      module _ (stack' output' : List ℕ) (depth' at' : ℕ) (k : length stack' ≡ length stack) (l : length output' ≡ length output)
-          (f : Falling message words (length stack) (last_first stack' depth') × (Partly output at (coming message words (length stack) row frames) output' at' (pending message words (length stack) (last_first stack' depth')) × (at < at'))) where
-        first : Falling message words used (last_first stack' depth') × (Partly output at (coming message words used row frames) output' at' (pending message words used (last_first stack' depth')) × (at < at'))
-        first = rw w.same at f
+      module _ (stack' output' : List ℕ) (p' : Place) (k : length stack' ≡ length stack) (l : length output' ≡ length output)
+          (ready : ReadyNext message words (length stack) p'.next (last_first stack' p'.depth))
+          (part : Partly output p.at (coming message words (length stack) row.0 frames) output' p'.at (coming_next message words (length stack) p'.next (last_first stack' p'.depth))) where
+        part' : Partly output p.at (text_from p stack) output' p'.at (text_from p' stack')
+        part' = rw text-first (rw w.same at part)
+
+        room' : p'.at + length (text_from p' stack') ≤ length output'
+        room' = part_room output p.at (text_from p stack) part' l w.room
 
         same' : length stack' ≡ used
         same' = k ∙ w.same
 
-        room' : at' + length (pending message words used (last_first stack' depth')) ≤ length output'
-        room' = part_room output at (coming message words used row frames) first.1.0 l room-first
-
-        pub rest-fits : Falling message words (length stack') (last_first stack' depth') × Room message words (length stack') (pending message words (length stack') (last_first stack' depth')) output' at'
-        rest-fits = rw same' (first.0, record { fits = w.fits; sound = w.sound; room = room' })
+        pub rest-fits : ReadyNext message words (length stack') p'.next (last_first stack' p'.depth) × Room message words (length stack') (coming_next message words (length stack') p'.next (last_first stack' p'.depth)) output' p'.at
+        rest-fits = rw same' (rw w.same at ready, record { fits = w.fits; sound = w.sound; room = room' })
 
         -- and then what comes after it
-        module _ (r : Rest) (stack'' output'' : List ℕ) (k' : length stack'' ≡ length stack') (l' : length output'' ≡ length output') (u : Risen message words stack' output' depth' at' r stack'' output'') where
-          risen : ReadyRest message words used r stack'' × Partly output' at' (pending message words used (last_first stack' depth')) output'' (place_rest message words used r) (coming_rest message words used r stack'')
-          risen = rw same' at u
+        module _ (stack'' output'' : List ℕ) (p'' : Place) (k' : length stack'' ≡ length stack') (l' : length output'' ≡ length output')
+            (whole : p''.next ≡ None → p''.depth ≡ 0)
+            (ready'' : ReadyNext message words (length stack') p''.next (last_first stack'' p''.depth))
+            (rest : Partly output' p'.at (coming_next message words (length stack') p'.next (last_first stack' p'.depth)) output'' p''.at (coming_next message words (length stack') p''.next (last_first stack'' p''.depth))) where
+          rest'' : Partly output' p'.at (text_from p' stack') output'' p''.at (text_from p'' stack'')
+          rest'' = rw same' at rest
 
-          part : Partly output₀ 0 text₀ output'' (place_rest message words used r) (coming_rest message words used r stack'')
-          unfolding left
-          part = part_then output₀ 0 text₀ w.part (part_then output at (coming message words used row frames) first.1.0 risen.1)
+          room'' : p''.at + length (text_from p'' stack'') ≤ length output''
+          room'' = part_room output' p'.at (text_from p' stack') rest'' l' room'
 
-          room'' : place_rest message words used r + length (coming_rest message words used r stack'') ≤ length output''
-          room'' = part_room output' at' (pending message words used (last_first stack' depth')) risen.1 l' room'
+          pub shorter : p.at < p'.at → length output₀ - p''.at < length output₀ - p.at
+          shorter h = omega (arith, h, rest''.onward, room'', l, l', w.same-output)
 
-          shorter : length output₀ - place_rest message words used r < length output₀ - at
-          shorter = omega (arith, first.1.1, risen.1.onward, room'', l, l', w.same-output)
-
-          pub goes_on : (n : D.Row) (d a : ℕ) → r ≡ R.Into n d a → Storing stack'' output'' true n.0 d a × (length output₀ - a < length output₀ - at)
-          unfolding ReadyRest place_rest coming_rest left Ready
-          goes_on n d a e = (
-            record {
-              fits = w.fits;
-              sound = w.sound;
-              same = k' ∙ same';
-              same-output = l' ∙ l ∙ w.same-output;
-              ready = rw e at risen.0;
-              room = rw e at room'';
-              part = rw e at part;
-            },
-            rw e at shorter,
-          )
-
-          pub ends : (a : ℕ) → r ≡ R.Whole a → Storing stack'' output'' false row depth a × (length output₀ - a < length output₀ - at)
-          unfolding ReadyRest place_rest coming_rest pending left Ready
-          ends a e = (
-            record {
-              fits = w.fits;
-              sound = w.sound;
-              same = k' ∙ same';
-              same-output = l' ∙ l ∙ w.same-output;
-              ready = tt;
-              room = rw e at room'';
-              part = rw e at part;
-            },
-            rw e at shorter,
-          )
+          pub goes_on : Storing stack'' output'' p''
+          goes_on = record {
+            fits = w.fits;
+            sound = w.sound;
+            same = k' ∙ same';
+            same-output = l' ∙ l ∙ w.same-output;
+            whole = whole;
+            ready = rw same' at ready'';
+            room = room'';
+            part = part_then output₀ 0 text₀ w.part (part_then output p.at (text_from p stack) part' rest'');
+          }
 
     -- only `$` is left
-    module _ (w : Storing stack output false row depth at) where
-      pub last-place : at < length output
-      unfolding left
-      last-place = omega (arith, w.room)
+    module _ (none : p.next ≡ None) where
+      end : text_from p stack ≡ code "$" ∷ []
+      unfolding coming_next last_first pending
+      end = rw (none, w.whole none)
 
-      pub all_stored : (set output at (code "$") ≡ text₀ ++ drop (at + 1) output₀) × (at + 1 ≡ length text₀)
-      unfolding left
+      pub last-place : p.at < length output
+      last-place = let h = rw end at w.room in omega (arith, h)
+
+      pub all_stored : (set output p.at (code "$") ≡ text₀ ++ drop (p.at + 1) output₀) × (p.at + 1 ≡ length text₀)
       all_stored =
-          let count : at + 1 ≡ length text₀ = omega (arith, w.part.count) in
-          (w.part.bytes ∙ rw count (sets-eq text₀ output₀ 0 (omega (arith, w.room, w.same-output, count)) ∙ rw zero-add), count)
+          let part = rw end at w.part in
+          let count : p.at + 1 ≡ length text₀ = omega (arith, part.count) in
+          (part.bytes ∙ rw count (sets-eq text₀ output₀ 0 (omega (arith, last-place, w.same-output, count)) ∙ rw zero-add), count)

@@ -11,12 +11,12 @@ use Rattle.format.specs.Text.{between}
 use Rattle.format.specs.Rows.{Row, row_at, rows_of, span_of, is_tuple_kind, cons_kind, field_kind, tag_kind}
 use Rattle.table.specs.Words.{last_first, row_in}
 use Rattle.table.proofs.Rows.{row_of}
-use Rattle.text.specs.declared.walk.After.{After}
-use Rattle.text.specs.declared.walk.After.TheVariants.{Done}
-use Rattle.text.specs.Walk.{frame_row, pending, coming_fields, Frame, of_cell, of_field, of_tag, Above, Falling, Room, place_after, coming_after, ReadyAfter}
+use Rattle.std.specs.Prelude.{None}
+use Rattle.text.specs.declared.walk.Place.{Place}
+use Rattle.text.specs.Walk.{frame_row, pending, coming_fields, Frame, of_cell, of_field, of_tag, Above, Falling, Room}
 use Rattle.text.proofs.Partly.{put_fits, part_put}
 use Rattle.text.proofs.Frames.{above-inside, above_lower, falling_below, field_names, field_rest, field_frame, tag-inside, tag-frame}
-use Rattle.text.proofs.Fields.{Turned}
+use Rattle.text.proofs.Fields.{Turned, turned-done}
 
 -- the frame e at `top` of the stack, whose row has the words r
 module _ (message words stack output : List ℕ) (top at : ℕ) where
@@ -65,8 +65,8 @@ module _ (message words stack output : List ℕ) (top at : ℕ) where
       pub rest-room : Room message words used (coming_fields message words used r.second below) output at
       rest-room = rw fields_text at room
 
-      pub fields_turned : (a : After) (stack' output' : List ℕ) → Turned message words used top output at (coming_fields message words used r.second below) a stack' output' → Turned message words used top output at text₀ a stack' output'
-      fields_turned a stack' output' t = rw fields_text t
+      pub fields_turned : (p : Place) (stack' output' : List ℕ) → Turned message words used top output at (coming_fields message words used r.second below) p stack' output' → Turned message words used top output at text₀ p stack' output'
+      fields_turned p stack' output' t = rw fields_text t
 
     -- a tag's: the tag comes next
     module _ (k : r.kind ≡ tag_kind) where
@@ -83,9 +83,8 @@ module _ (message words stack output : List ℕ) (top at : ℕ) where
       pub tag_fits : (r.first + r.second ≤ length message) × (at + length bytes ≤ length output)
       tag_fits = (rw found (tag-inside message words used room.fits room.sound i inside is-tag), put_fits output at text₀ bytes _ tag-text room.room)
 
-      pub tag-turned : (output' : List ℕ) (at' : ℕ) → (output' ≡ sets output at bytes) × (at' ≡ at + length bytes) → Turned message words used top output at text₀ (Done at') stack output'
-      unfolding ReadyAfter place_after coming_after
-      tag-turned output' at' s = (falling_below message words used i below falls.1, part_put output at text₀ bytes _ tag-text s)
+      pub tag-turned : (output' : List ℕ) (at' : ℕ) → (output' ≡ sets output at bytes) × (at' ≡ at + length bytes) → Turned message words used top output at text₀ (record { next = None; depth = top; at = at' }) stack output'
+      tag-turned output' at' s = turned-done message words used top output at text₀ (falling_below message words used i below falls.1) (part_put output at text₀ bytes _ tag-text s)
 
     -- else it is a list cell's
     pub cell : (r.kind ≡ field_kind → ⊥) → (r.kind ≡ tag_kind → ⊥) → ((row_in words i).kind ≡ cons_kind) × ((row_in words i).first ≡ r.first)

@@ -1,17 +1,13 @@
 -- The walk over the rows, which stores a plain text from leaf to leaf. A frame is a row of which something is still to come. The frames lie on a stack, their
 -- rows falling towards its top, so that a word for each row used is room enough.
-use Rattle.std.specs.Prelude.{ℕ, ◌+◌, ◌≤◌, ◌<◌, ◌%◌, ◌≡◌, cond, List, [], ◌∷◌, length, get_or, T, eqb, ltb}
+use Rattle.std.specs.Prelude.{ℕ, ◌+◌, ◌≤◌, ◌<◌, ◌%◌, ◌≡◌, cond, List, [], ◌∷◌, length, T, eqb, ltb, Option, Some, None}
 use Prim.Native.Char.{code}
 use Rattle.std.proofs.lemmas.List.Edits.{sets}
 use Rattle.format.specs.Bound.{row_bound}
 use Rattle.format.specs.Text.{between, text_on, fields_on}
 use Rattle.format.specs.Rows.{Row, row_at, rows_of, row_room, span_of, fields_of, term_at, cons_kind, field_kind, tag_kind}
 use Rattle.format.specs.Sound.{sound_rows}
-use Rattle.table.specs.Words.{last_first}
-use Rattle.text.specs.declared.walk.After.{After}
-use Rattle.text.specs.declared.walk.After.TheVariants.{Into, Done}
-use Rattle.text.specs.declared.walk.Rest.{Rest}
-use Rattle.text.specs.declared.walk.Rest.TheVariants as R
+use Rattle.format.specs.declared.Row as D
 
 -- a frame is a row's number, to which the bound is added where the row is a list cell whose item is begun
 unfoldable pub frame_row : ℕ → ℕ
@@ -73,31 +69,14 @@ module _ (message words : List ℕ) (used : ℕ) where
     pub sound : T (sound_rows message rows)
     pub room : at + length text ≤ length output
 
-  -- after a turn of the frame at `top` of the stack: a row that comes next, above the frame; or the frame is done
-  unfoldable pub place_after : After → ℕ
-  place_after (Into row at) = at
-  place_after (Done at) = at
+  -- what is still to come above these frames: a row, if one comes next, and the frames
+  unfoldable pub coming_next : Option D.Row → List ℕ → List ℕ
+  coming_next (Some row) frames = coming row.0 frames
+  coming_next None frames = pending frames
 
-  unfoldable pub coming_after : After → List ℕ → ℕ → List ℕ
-  coming_after (Into row at) stack top = coming row.0 (get_or stack top 0 ∷ last_first stack top)
-  coming_after (Done at) stack top = pending (last_first stack top)
-
-  unfoldable pub ReadyAfter : After → List ℕ → ℕ → Type 0
-  ReadyAfter (Into row at) stack top = Above row.0 (get_or stack top 0 ∷ last_first stack top)
-  ReadyAfter (Done at) stack top = Falling (last_first stack top)
-
-  -- after turns of the frames: a row that comes next, above so many frames; or only `$`
-  unfoldable pub place_rest : Rest → ℕ
-  place_rest (R.Into row depth at) = at
-  place_rest (R.Whole at) = at
-
-  unfoldable pub coming_rest : Rest → List ℕ → List ℕ
-  coming_rest (R.Into row depth at) stack = coming row.0 (last_first stack depth)
-  coming_rest (R.Whole at) stack = pending []
-
-  unfoldable pub ReadyRest : Rest → List ℕ → Type 0
-  ReadyRest (R.Into row depth at) stack = Above row.0 (last_first stack depth)
-  ReadyRest (R.Whole at) stack = Unit {0}
+  unfoldable pub ReadyNext : Option D.Row → List ℕ → Type 0
+  ReadyNext (Some row) frames = Above row.0 frames
+  ReadyNext None frames = Falling frames
 
 -- part of a text was stored from `at` on: what is left of it, stored where that part ends, makes the same bytes
 pub record Partly (output : List ℕ) (at : ℕ) (text : List ℕ) (output' : List ℕ) (at' : ℕ) (text' : List ℕ) : Type 0 where

@@ -11,25 +11,17 @@ use format::{Row, kind};
 use measure::length;
 use table::RowWords;
 
-// Puts two rows in place of the top, and answers how many then lie on the stack.
-fn put_both(stack: &mut [u32], top: usize, above: u32, below: u32) -> usize
-    requires { top + 1 < length stack.old }
-    ensures { last_first stack.new result ≡ above ∷ below ∷ last_first stack.old top }
-{
-    stack[top] = below;
-    stack[top + 1] = above;
-    top + 2
-}
-
 // Puts the rows that a row names in place of the top, and answers how many rows then lie on the stack.
 fn put_named(stack: &mut [u32], top: usize, words: RowWords) -> usize
     requires { top + length (named (row_of words)) ≤ length stack.old }
     ensures { last_first stack.new result ≡ named (row_of words) ++ last_first stack.old top }
 {
-    let k = words.kind;
-    match k {
-        kind::CONS => put_both(stack, top, words.first, words.second),
-        kind::FIELD => put_both(stack, top, words.first, words.second),
+    match words.kind {
+        kind::CONS | kind::FIELD => {
+            stack[top] = words.second;
+            stack[top + 1] = words.first;
+            top + 2
+        }
         kind::TAG => {
             stack[top] = words.third;
             top + 1

@@ -5,7 +5,7 @@ ghost use Rattle.format.specs.Sound.{sound_table};
 ghost use Rattle.format.specs.Text.{plain};
 
 use crate::walk;
-use crate::walk::Rest;
+use crate::walk::Place;
 use format::{Row, byte};
 
 // Stores the plain text of a sound table's root, and answers how many bytes it has. The stack has a word for each row used.
@@ -21,25 +21,15 @@ pub(crate) fn store_text(
     ensures output_after { output.new ≡ plain (term_at message.now (rows_of (length stack.old) rows.now) root.0) ++ drop result output.old }
     ensures value { result ≡ length (plain (term_at message.now (rows_of (length stack.old) rows.now) root.0)) }
 {
-    let mut more = true;
-    let mut row = root;
-    let mut depth = 0;
-    let mut at = 0;
-    while more {
-        let first = walk::put_first(message, rows, stack, depth, row, output, at);
-        let rest = walk::put_rest(message, rows, stack, first.depth, output, first.at);
-        match rest {
-            Rest::Into(next, frames, end) => {
-                row = next;
-                depth = frames;
-                at = end;
-            }
-            Rest::Whole(end) => {
-                more = false;
-                at = end;
-            }
-        }
+    let mut place = Place {
+        next: Some(root),
+        depth: 0,
+        at: 0,
+    };
+    while let Some(row) = place.next {
+        let first = walk::put_first(message, rows, stack, place.depth, row, output, place.at);
+        place = walk::put_rest(message, rows, stack, output, first);
     }
-    output[at] = byte::DOLLAR;
-    at + 1
+    output[place.at] = byte::DOLLAR;
+    place.at + 1
 }

@@ -1,9 +1,9 @@
 //! The walk over the rows: the text of a leaf is stored where the leaf is met, and what is still to come of the rows around it lies on the stack, in frames.
-ghost use Rattle.std.specs.Prelude.{◌≡◌, ◌∷◌, ◌+◌, ◌≤◌, ◌<◌, T, length, get_or};
+ghost use Rattle.std.specs.Prelude.{◌≡◌, ◌∷◌, ◌+◌, ◌≤◌, ◌<◌, T, MatchOption, length, get_or};
 ghost use Rattle.std.proofs.lemmas.List.Edits.{sets};
 ghost use Rattle.format.specs.Rows.{is_tuple_kind, cons_kind};
 ghost use Rattle.table.specs.Words.{row_of, last_first, row_in};
-ghost use Rattle.text.specs.Walk.{open_bytes, first_named, frame_row, pending, coming, coming_fields, Above, Falling, Room, place_after, coming_after, ReadyAfter, place_rest, coming_rest, ReadyRest, Partly};
+ghost use Rattle.text.specs.Walk.{open_bytes, first_named, frame_row, pending, coming, coming_fields, Above, Falling, Room, coming_next, ReadyNext, Partly};
 
 use format::{Offset, Row, bound, byte, kind};
 use leaves::leaf;
@@ -12,25 +12,12 @@ use table::RowWords;
 // Added to the number of a list cell, in its frame, once its item is begun. Rows used are below the bound.
 const ITEM_BEGUN: u32 = bound::ROWS as u32;
 
-// How many frames lie on the stack, and where the text goes on.
+// Where the text goes on, how many frames lie on the stack, and the row that comes next above them, if one does.
 #[derive(Clone, Copy)]
 pub(crate) struct Place {
+    pub next: Option<Row>,
     pub depth: usize,
     pub at: usize,
-}
-
-// After a frame's turn: a row that comes next, above the frame; or the frame is done. And where the text goes on.
-#[derive(Clone, Copy)]
-pub(crate) enum After {
-    Into(Row, usize),
-    Done(usize),
-}
-
-// After turns of the frames: a row that comes next, above so many frames; or only `$`. And where the text goes on.
-#[derive(Clone, Copy)]
-pub(crate) enum Rest {
-    Into(Row, usize, usize),
-    Whole(usize),
 }
 
 // The row whose text comes first in a row's own, and where the text goes on.
@@ -46,23 +33,20 @@ fn begin(output: &mut [u8], at: usize, words: RowWords) -> Begun
     ensures output_after { output.new ≡ sets output.old at (open_bytes (row_of words)) }
     ensures at_value { (result.at ≡ at + length (open_bytes (row_of words))) × (result.row.0 ≡ first_named (row_of words)) }
 {
-    let k = words.kind;
-    if k == kind::FIELD {
-        let end = leaf::put_byte(output, at, byte::LEFT_BRACE);
-        return Begun {
+    match words.kind {
+        kind::FIELD => Begun {
             row: Row(words.first),
-            at: end,
-        };
-    }
-    if k == kind::CONS {
-        return Begun {
+            at: leaf::put_byte(output, at, byte::LEFT_BRACE),
+        },
+        kind::CONS => Begun {
             row: Row(words.second),
             at,
-        };
-    }
-    Begun {
-        row: Row(words.third),
-        at,
+        },
+        // a tag, the only kind left that names a row
+        _ => Begun {
+            row: Row(words.third),
+            at,
+        },
     }
 }
 
@@ -78,8 +62,9 @@ pub(crate) fn put_first(
 ) -> Place
     requires above { Above message.now rows.now (length stack.old) row.0 (last_first stack.old depth) }
     requires room { Room message.now rows.now (length stack.old) (coming message.now rows.now (length stack.old) row.0 (last_first stack.old depth)) output.old at }
-    ensures falling { Falling message.now rows.now (length stack.old) (last_first stack.new result.depth) }
-    ensures partly { Partly output.old at (coming message.now rows.now (length stack.old) row.0 (last_first stack.old depth)) output.new result.at (pending message.now rows.now (length stack.old) (last_first stack.new result.depth)) }
+    ensures next { result.next ≡ None }
+    ensures ready_next { ReadyNext message.now rows.now (length stack.old) result.next (last_first stack.new result.depth) }
+    ensures partly { Partly output.old at (coming message.now rows.now (length stack.old) row.0 (last_first stack.old depth)) output.new result.at (coming_next message.now rows.now (length stack.old) result.next (last_first stack.new result.depth)) }
     ensures rises { at < result.at }
 {
     let mut n = row;
@@ -96,6 +81,7 @@ pub(crate) fn put_first(
         frames = above;
     }
     Place {
+        next: None,
         depth: frames,
         at: leaf::put(message, output, end, words),
     }
@@ -110,12 +96,13 @@ fn put_fields(
     rest: Row,
     output: &mut [u8],
     at: usize,
-) -> After
+) -> Place
     requires top_in_bounds { (top < length stack.old) × T (is_tuple_kind (row_in rows.now rest.0).kind) }
     requires above { Above message.now rows.now (length stack.old) rest.0 (last_first stack.old top) }
     requires room { Room message.now rows.now (length stack.old) (coming_fields message.now rows.now (length stack.old) rest.0 (last_first stack.old top)) output.old at }
-    ensures ready_after { ReadyAfter message.now rows.now (length stack.old) result stack.new top }
-    ensures partly { Partly output.old at (coming_fields message.now rows.now (length stack.old) rest.0 (last_first stack.old top)) output.new (place_after message.now rows.now (length stack.old) result) (coming_after message.now rows.now (length stack.old) result stack.new top) }
+    ensures depth { MatchOption result.next (result.depth ≡ top) (λ row. result.depth ≡ top + 1) }
+    ensures ready_next { ReadyNext message.now rows.now (length stack.old) result.next (last_first stack.new result.depth) }
+    ensures partly { Partly output.old at (coming_fields message.now rows.now (length stack.old) rest.0 (last_first stack.old top)) output.new result.at (coming_next message.now rows.now (length stack.old) result.next (last_first stack.new result.depth)) }
 {
     let mut n = rest;
     let mut words = table::read_row(rows, n);
@@ -125,13 +112,21 @@ fn put_fields(
         let field = table::read_row(rows, first);
         if !leaf::is_leaf(field.kind) {
             stack[top] = n.0;
-            return After::Into(first, end);
+            return Place {
+                next: Some(first),
+                depth: top + 1,
+                at: end,
+            };
         }
         end = leaf::put(message, output, end, field);
         n = Row(words.second);
         words = table::read_row(rows, n);
     }
-    After::Done(leaf::put_byte(output, end, byte::RIGHT_BRACE))
+    Place {
+        next: None,
+        depth: top,
+        at: leaf::put_byte(output, end, byte::RIGHT_BRACE),
+    }
 }
 
 // Stores the item of a list cell and `&`; or nothing yet where the item is no leaf, and comes next. The frame at `top` is the cell's.
@@ -143,25 +138,38 @@ fn put_item(
     item: Row,
     output: &mut [u8],
     at: usize,
-) -> After
+) -> Place
     requires top_in_bounds { top < length stack.old }
     requires falling { Falling message.now rows.now (length stack.old) (get_or stack.old top 0 ∷ last_first stack.old top) }
     requires room { Room message.now rows.now (length stack.old) (pending message.now rows.now (length stack.old) (get_or stack.old top 0 ∷ last_first stack.old top)) output.old at }
     requires cell { ((row_in rows.now (frame_row (get_or stack.old top 0))).kind ≡ cons_kind) × ((row_in rows.now (frame_row (get_or stack.old top 0))).first ≡ item.0) }
-    ensures ready_after { ReadyAfter message.now rows.now (length stack.old) result stack.new top }
-    ensures partly { Partly output.old at (pending message.now rows.now (length stack.old) (get_or stack.old top 0 ∷ last_first stack.old top)) output.new (place_after message.now rows.now (length stack.old) result) (coming_after message.now rows.now (length stack.old) result stack.new top) }
+    ensures depth { MatchOption result.next (result.depth ≡ top) (λ row. result.depth ≡ top + 1) }
+    ensures ready_next { ReadyNext message.now rows.now (length stack.old) result.next (last_first stack.new result.depth) }
+    ensures partly { Partly output.old at (pending message.now rows.now (length stack.old) (get_or stack.old top 0 ∷ last_first stack.old top)) output.new result.at (coming_next message.now rows.now (length stack.old) result.next (last_first stack.new result.depth)) }
 {
     let frame = stack[top];
     if ITEM_BEGUN <= frame {
-        return After::Done(leaf::put_byte(output, at, byte::AMPERSAND));
+        return Place {
+            next: None,
+            depth: top,
+            at: leaf::put_byte(output, at, byte::AMPERSAND),
+        };
     }
     let words = table::read_row(rows, item);
     if leaf::is_leaf(words.kind) {
         let end = leaf::put(message, output, at, words);
-        return After::Done(leaf::put_byte(output, end, byte::AMPERSAND));
+        return Place {
+            next: None,
+            depth: top,
+            at: leaf::put_byte(output, end, byte::AMPERSAND),
+        };
     }
     stack[top] = frame + ITEM_BEGUN;
-    After::Into(item, at)
+    Place {
+        next: Some(item),
+        depth: top + 1,
+        at,
+    }
 }
 
 // Stores what is still to come of the frame at `top`, up to a row that is no leaf.
@@ -172,12 +180,13 @@ fn put_frame(
     top: usize,
     output: &mut [u8],
     at: usize,
-) -> After
+) -> Place
     requires top_in_bounds { top < length stack.old }
     requires falling { Falling message.now rows.now (length stack.old) (get_or stack.old top 0 ∷ last_first stack.old top) }
     requires room { Room message.now rows.now (length stack.old) (pending message.now rows.now (length stack.old) (get_or stack.old top 0 ∷ last_first stack.old top)) output.old at }
-    ensures ready_after { ReadyAfter message.now rows.now (length stack.old) result stack.new top }
-    ensures partly { Partly output.old at (pending message.now rows.now (length stack.old) (get_or stack.old top 0 ∷ last_first stack.old top)) output.new (place_after message.now rows.now (length stack.old) result) (coming_after message.now rows.now (length stack.old) result stack.new top) }
+    ensures depth { MatchOption result.next (result.depth ≡ top) (λ row. result.depth ≡ top + 1) }
+    ensures ready_next { ReadyNext message.now rows.now (length stack.old) result.next (last_first stack.new result.depth) }
+    ensures partly { Partly output.old at (pending message.now rows.now (length stack.old) (get_or stack.old top 0 ∷ last_first stack.old top)) output.new result.at (coming_next message.now rows.now (length stack.old) result.next (last_first stack.new result.depth)) }
 {
     let frame = stack[top];
     let words = table::read_row(rows, Row(frame % ITEM_BEGUN));
@@ -186,7 +195,11 @@ fn put_frame(
     let n = words.second as usize;
     match k {
         kind::FIELD => put_fields(message, rows, stack, top, Row(words.second), output, at),
-        kind::TAG => After::Done(leaf::put_quoted(message, output, at, byte::TAG_QUOTE, start, n)),
+        kind::TAG => Place {
+            next: None,
+            depth: top,
+            at: leaf::put_quoted(message, output, at, byte::TAG_QUOTE, start, n),
+        },
         // a list cell, the only kind left in a frame
         _ => put_item(message, rows, stack, top, Row(words.first), output, at),
     }
@@ -197,29 +210,18 @@ pub(crate) fn put_rest(
     message: &[u8],
     rows: &[u32],
     stack: &mut [u32],
-    depth: usize,
     output: &mut [u8],
-    at: usize,
-) -> Rest
-    requires falling { Falling message.now rows.now (length stack.old) (last_first stack.old depth) }
-    requires room { Room message.now rows.now (length stack.old) (pending message.now rows.now (length stack.old) (last_first stack.old depth)) output.old at }
-    ensures ready_rest { ReadyRest message.now rows.now (length stack.old) result stack.new }
-    ensures partly { Partly output.old at (pending message.now rows.now (length stack.old) (last_first stack.old depth)) output.new (place_rest message.now rows.now (length stack.old) result) (coming_rest message.now rows.now (length stack.old) result stack.new) }
+    first: Place,
+) -> Place
+    requires ready_next { ReadyNext message.now rows.now (length stack.old) first.next (last_first stack.old first.depth) }
+    requires room { Room message.now rows.now (length stack.old) (coming_next message.now rows.now (length stack.old) first.next (last_first stack.old first.depth)) output.old first.at }
+    ensures whole { result.next ≡ None → result.depth ≡ 0 }
+    ensures ready_next { ReadyNext message.now rows.now (length stack.old) result.next (last_first stack.new result.depth) }
+    ensures partly { Partly output.old first.at (coming_next message.now rows.now (length stack.old) first.next (last_first stack.old first.depth)) output.new result.at (coming_next message.now rows.now (length stack.old) result.next (last_first stack.new result.depth)) }
 {
-    let mut frames = depth;
-    let mut end = at;
-    while 0 < frames {
-        let top = frames - 1;
-        let after = put_frame(message, rows, stack, top, output, end);
-        match after {
-            After::Done(next) => {
-                frames = top;
-                end = next;
-            }
-            After::Into(row, next) => {
-                return Rest::Into(row, frames, next);
-            }
-        }
+    let mut place = first;
+    while place.next.is_none() && 0 < place.depth {
+        place = put_frame(message, rows, stack, place.depth - 1, output, place.at);
     }
-    Rest::Whole(end)
+    place
 }

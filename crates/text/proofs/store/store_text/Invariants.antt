@@ -4,8 +4,8 @@ use lib.ListN.{length}
 use Rattle.text.proofs.Storing.{Storing}
 use Rattle.text.proofs.store.store_text.Given as goal
 
-abbrev pub invariant-loop-more : goal.invariant-loop-more
-invariant-loop-more l = Storing l.message l.rows l.initial.stack l.initial.output l.initial.row.0 l.stack l.output l.more l.row.0 l.depth l.at
+abbrev pub invariant-loop-place : goal.invariant-loop-place
+invariant-loop-place l = Storing l.message l.rows l.initial.stack l.initial.output l.fn.root.0 l.stack l.output l.place
 
-abbrev pub decreases-loop-more : goal.decreases-loop-more
-decreases-loop-more l = length l.initial.output - l.at
+abbrev pub decreases-loop-place : goal.decreases-loop-place
+decreases-loop-place l = length l.initial.output - l.place.at

@@ -31,7 +31,7 @@ shape_of-output-then-not-is_leaf c = c.loop-words.invariant.same-output
 pub returns-then-not-is_leaf : goal.returns-then-not-is_leaf
 returns-then-not-is_leaf c =
     let all = into _ _ _ _ _ _ _ _ _ _ _ _ c.loop-words.invariant c.loop-words-test.true _ c.read_row-field.ensures c.requires.top_in_bounds.0 in
-    record { ready_after = all.0; partly = all.1 }
+    record { depth = all.depth; ready_next = all.ready_next; partly = all.partly }
 
 pub put-end-requires : goal.put-end-requires
 put-end-requires c =
@@ -59,4 +59,4 @@ shape_of-output c = c.put_byte.auto.output ∙ c.loop-words.invariant.same-outpu
 pub returns : goal.returns
 returns c =
     let all = closed _ _ _ _ _ _ _ _ _ _ _ _ c.loop-words.invariant c.loop-words-test.false _ _ (c.put_byte.ensures.output_after, c.put_byte.ensures.value) in
-    record { ready_after = all.0; partly = all.1 }
+    record { depth = all.depth; ready_next = all.ready_next; partly = all.partly }

@@ -1,7 +1,8 @@
 -- `text::walk::put_first` meets its contract.
-use mathlib.Core.Path.{sym, ◌∙◌}
+use mathlib.Core.Path.{refl, sym, ◌∙◌}
 use native.Mathlib.Omega.{arith}
 use Rattle.table.specs.Words.{last_first}
+use Rattle.text.specs.Walk.{coming_next, ReadyNext}
 use Rattle.text.proofs.Frames.{above-room}
 use Rattle.text.proofs.Entering.{starts, frame-fits, begin_fits, first-earlier, first-room, entered, leaf-fits, leaf-stored}
 use Rattle.text.proofs.walk.put_first.Goals as goal
@@ -45,6 +46,7 @@ pub shape_of-output : goal.shape_of-output
 shape_of-output c = c.put.auto.output ∙ c.loop-n.invariant.same-output
 
 pub returns : goal.returns
+unfolding ReadyNext coming_next
 returns c =
     let all = leaf-stored _ _ _ _ _ _ _ _ _ _ _ _ _ c.loop-n.invariant (sym c.is_leaf.ensures ∙ c.loop-n-test.false) _ _ (c.put.ensures.output_after, c.put.ensures.value) in
-    record { falling = all.0; partly = all.1.0; rises = all.1.1 }
+    record { next = refl; ready_next = all.0; partly = all.1.0; rises = all.1.1 }

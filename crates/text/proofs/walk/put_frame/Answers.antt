@@ -36,14 +36,14 @@ put_item-requires c = record {
 pub returns-in-8 : goal.returns-in-8
 unfolding frame_row
 returns-in-8 c =
-    let all = fields_turned _ _ _ _ _ _ c.requires.falling c.requires.room _ c.read_row-words.ensures c.in-8.is _ _ _ (c.put_fields.ensures.ready_after, c.put_fields.ensures.partly) in
-    record { ready_after = all.0; partly = all.1 }
+    let all = fields_turned _ _ _ _ _ _ c.requires.falling c.requires.room _ c.read_row-words.ensures c.in-8.is _ _ _ (record { depth = c.put_fields.ensures.depth; ready_next = c.put_fields.ensures.ready_next; partly = c.put_fields.ensures.partly }) in
+    record { depth = all.depth; ready_next = all.ready_next; partly = all.partly }
 
 pub returns-in-9 : goal.returns-in-9
 unfolding frame_row
 returns-in-9 c =
     let all = tag-turned _ _ _ _ _ _ c.requires.falling c.requires.room _ c.read_row-words.ensures c.in-9.is _ _ (c.put_quoted.ensures.output_after, c.put_quoted.ensures.value) in
-    record { ready_after = all.0; partly = all.1 }
+    record { depth = all.depth; ready_next = all.ready_next; partly = all.partly }
 
 pub returns-in_default : goal.returns-in_default
-returns-in_default c = record { ready_after = c.put_item.ensures.ready_after; partly = c.put_item.ensures.partly }
+returns-in_default c = c.put_item.ensures

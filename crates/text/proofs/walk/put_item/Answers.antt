@@ -14,7 +14,7 @@ put_byte-requires c =
 pub returns-then-frame-ge-ITEM_BEGUN : goal.returns-then-frame-ge-ITEM_BEGUN
 returns-then-frame-ge-ITEM_BEGUN c =
     let all = begun-done _ _ _ _ _ _ _ c.requires.falling c.requires.room c.requires.cell c.if-frame-ge-ITEM_BEGUN.true _ _ (c.put_byte.ensures.output_after, c.put_byte.ensures.value) in
-    record { ready_after = all.0; partly = all.1 }
+    record { depth = all.depth; ready_next = all.ready_next; partly = all.partly }
 
 pub read_row-words-requires : goal.read_row-words-requires
 read_row-words-requires c =
@@ -32,7 +32,7 @@ put_byte-requires-then-is_leaf c =
 pub returns-then-is_leaf : goal.returns-then-is_leaf
 returns-then-is_leaf c =
     let all = item-done _ _ _ _ _ _ _ c.requires.falling c.requires.room c.requires.cell c.if-frame-ge-ITEM_BEGUN.false _ c.read_row-words.ensures (sym c.is_leaf.ensures ∙ c.if-is_leaf.true) _ _ (c.put-end.ensures.output_after, c.put-end.ensures.value) _ _ (c.put_byte-then-is_leaf.ensures.output_after, c.put_byte-then-is_leaf.ensures.value) in
-    record { ready_after = all.0; partly = all.1 }
+    record { depth = all.depth; ready_next = all.ready_next; partly = all.partly }
 
 pub overflow_add-stack : goal.overflow_add-stack
 overflow_add-stack c = omega (arith, c.if-frame-ge-ITEM_BEGUN.false)
@@ -43,4 +43,4 @@ bounds-stack-top-2 c = c.requires.top_in_bounds
 pub returns : goal.returns
 returns c =
     let all = into _ _ _ _ _ _ _ c.requires.falling c.requires.room c.requires.cell c.if-frame-ge-ITEM_BEGUN.false _ c.read_row-words.ensures c.requires.top_in_bounds in
-    record { ready_after = all.0; partly = all.1 }
+    record { depth = all.depth; ready_next = all.ready_next; partly = all.partly }
