@@ -1,10 +1,10 @@
 -- What `write` has to answer, refusal by refusal.
 use Prim.Native.Nat.{ℕ, ◌≤◌, ◌<◌}
-use mathlib.Core.Path.{◌≡◌, refl, sym, subst, ◌∙◌}
+use mathlib.Core.Path.{◌≡◌, refl, ◌∙◌}
 use mathlib.Core.Bool.{Bool, true, false, ◌&&◌, not, cond}
 use mathlib.Core.List.{List, ◌++◌}
 use Rattle.std.specs.Prelude.{Result, Ok, Err}
-use lib.Dec.{T, leb, leb→le}
+use lib.Dec.{T, leb, leb→le, ltb→lt}
 use lib.ListN.{length, take, drop}
 use lib.Seq.{length-take-le}
 use borrow.Author.Tests.{lt-ltb, le-ltb, leb-true, leb-false}
@@ -14,7 +14,7 @@ use Rattle.format.specs.Sound.{count_fits, root_among, sound_rows, sound_table}
 use Rattle.format.specs.Text.{plain}
 use Rattle.format.specs.Answer as A
 use Rattle.format.specs.Answer.{over_bound, zeroed, write_text, write_answer}
-use Rattle.format.proofs.Tests.{left_of, both}
+use Rattle.format.proofs.Tests.{left_of, right_of}
 use Rattle.format.specs.declared.refusal.Refusal.{Refusal}
 use Rattle.format.specs.declared.refusal.Refusal.TheVariants.{OverBound, ShortTable, TooLong, Unsound}
 use Rattle.text.specs.Answers.{written_as, write_rows}
@@ -28,10 +28,9 @@ module _ (words : List ℕ) (used root : ℕ) (claims : T (count_fits words used
   unfolding count_fits
   count_room = leb→le used (row_room words) (left_of (count_fits words used) (root_among used root) claims)
 
-  -- where its rows are sound, so is the table
-  pub whole : (message : List ℕ) → sound_rows message (rows_of used words) ≡ true → T (sound_table message words used root)
-  unfolding sound_table
-  whole message e = both (count_fits words used && root_among used root) (sound_rows message (rows_of used words)) claims (subst T (sym e) tt)
+  pub root_inside : root < used
+  unfolding root_among
+  root_inside = ltb→lt root used (right_of (count_fits words used) (root_among used root) claims)
 
 either_way : (b : Bool) (x y : A.Written) → cond b x y ≡ cond (not b) y x
 either_way true x y = refl

@@ -7,24 +7,36 @@ use mathlib.Core.List.{List, [], ◌∷◌, ◌++◌}
 use native.Mathlib.Omega.{arith}
 use lib.ListN.{length, set, get_or}
 use lib.Seq.{sets, length-sets}
+use Rattle.std.specs.Prelude.{Some, None}
 use Rattle.format.specs.Bound.{row_bound}
 use Rattle.format.specs.Text.{text_on}
-use Rattle.format.specs.Rows.{Row, row_at, rows_of, row_room, term_at, cons_kind}
+use Rattle.format.specs.Rows.{Row, row_room, cons_kind}
 use Rattle.table.specs.Words.{last_first, row_in}
-use Rattle.table.proofs.Rows.{row_of}
-use Rattle.std.specs.Prelude.{Some, None}
 use Rattle.leaves.specs.Leaves.{is_leaf_kind, leaf_bytes, Inside}
-use Rattle.text.specs.Walk.{frame_row, frame_on, pending, coming, of_cell, Falling, Room}
+use Rattle.text.specs.declared.rows.Table.{Table}
+use Rattle.text.specs.Rows.{row_used, term_of}
+use Rattle.text.specs.Walk.{frame_row, frame_on, pending, coming, of_cell, Falling, Partly}
 use Rattle.text.proofs.Partly.{part_none, part_then, part_room, put_fits, part_put}
-use Rattle.text.proofs.Frames as F
-use Rattle.text.proofs.Frames.{above-inside, above-room, falling_below, row-frame, begun-frame, leaf-inside, cell-names, item-frame, begun-item_frame}
-use Rattle.text.proofs.Fields.{Turned, turned-done, turned-above}
+use Rattle.text.proofs.Frames.{Leaf, above-used, above-room, falling_below, row-frame, begun-frame, found, leaf_read, cell-names, item-frame, begun-item_frame}
+use Rattle.text.proofs.Turned.{Turned, turned-done, turned-above}
 
--- the frame e at `top` of the stack is that of a list cell with this item
-module _ (message words stack output : List ℕ) (top at item : ℕ) where
-  abbrev used : ℕ
-  used = length stack
+-- the frame at `top` of the stack is that of a list cell with this item
+pub record Cell (t : Table) (stack output : List ℕ) (top at item : ℕ) : Type 0 where
+  pub top_in_bounds : top < length stack
+  pub falling : Falling t (get_or stack top 0 ∷ last_first stack top)
+  pub room : at + length (pending t (get_or stack top 0 ∷ last_first stack top)) ≤ length output
+  pub cell : ((row_in t.rows.now (frame_row (get_or stack top 0))).kind ≡ cons_kind) × ((row_in t.rows.now (frame_row (get_or stack top 0))).first ≡ item)
 
+-- as it is required
+pub cell_of : {t : Table} {stack output : List ℕ} {top at item : ℕ} → record {
+  top_in_bounds : top < length stack;
+  falling : Falling t (get_or stack top 0 ∷ last_first stack top);
+  room : at + length (pending t (get_or stack top 0 ∷ last_first stack top)) ≤ length output;
+  cell : ((row_in t.rows.now (frame_row (get_or stack top 0))).kind ≡ cons_kind) × ((row_in t.rows.now (frame_row (get_or stack top 0))).first ≡ item);
+} → Cell t stack output top at item
+cell_of r = record { top_in_bounds = r.top_in_bounds; falling = r.falling; room = r.room; cell = r.cell }
+
+module _ {t : Table} {stack output : List ℕ} {top at item : ℕ} (w : Cell t stack output top at item) where
   abbrev e : ℕ
   e = get_or stack top 0
 
@@ -32,89 +44,75 @@ module _ (message words stack output : List ℕ) (top at item : ℕ) where
   below = last_first stack top
 
   abbrev more : List ℕ
-  more = pending message words used below
+  more = pending t below
 
   abbrev text₀ : List ℕ
-  text₀ = pending message words used (e ∷ below)
+  text₀ = pending t (e ∷ below)
 
-  module _ (falls : Falling message words used (e ∷ below)) (room : Room message words used text₀ output at) (cell : ((row_in words (frame_row e)).kind ≡ cons_kind) × ((row_in words (frame_row e)).first ≡ item)) where
-    abbrev i : ℕ
-    i = frame_row e
+  abbrev i : ℕ
+  i = frame_row e
 
-    abbrev row : Row
-    row = row_at (rows_of used words) i
+  inside : i < t.used
+  inside = above-used t i below w.falling.1
 
-    inside : i < used
-    inside = omega (arith, above-inside message words used i below falls.1)
+  is-cell : (row_used t i).kind ≡ cons_kind
+  is-cell = rw (found t i inside) at w.cell.0
 
-    found : row_in words i ≡ row
-    found = row_of words used i room.fits inside
+  is-item : (row_used t i).first ≡ item
+  is-item = rw (found t i inside) at w.cell.1
 
-    is-cell : row.kind ≡ cons_kind
-    is-cell = rw found at cell.0
+  earlier : item < i
+  earlier = rw is-item at (cell-names t i inside is-cell).0
 
-    is-item : row.first ≡ item
-    is-item = rw found at cell.1
+  item-inside : item < t.used
+  item-inside = omega (arith, earlier, inside)
 
-    earlier : item < i
-    earlier = rw is-item at (cell-names message words used room.fits room.sound i inside is-cell).0
+  pub item_room : item < row_room t.rows.now
+  item_room = omega (arith, earlier, above-room t i below w.falling.1)
 
-    item-inside : item < used
-    item-inside = omega (arith, earlier, inside)
+  -- its item is begun, and now done
+  module _ (h : row_bound ≤ e) where
+    last : text₀ ≡ (code "&" ∷ []) ++ more
+    unfolding pending
+    last = begun-item_frame t i inside more e refl is-cell h
 
-    pub item_room : item < row_room words
-    item_room = omega (arith, earlier, above-room message words used room.fits i below falls.1)
+    pub begun-fits : at < length output
+    begun-fits = omega (arith, put_fits output at text₀ (code "&" ∷ []) _ last w.room)
 
-    -- its item is begun, and now done
-    module _ (h : row_bound ≤ e) where
-      last : text₀ ≡ (code "&" ∷ []) ++ more
-      unfolding pending
-      last = begun-item_frame message words used room.fits room.sound i inside more e refl is-cell h
+    pub begun-done : {output' : List ℕ} {at' : ℕ} → output' ≡ set output at (code "&") → at' ≡ at + 1
+        → Turned t top output at text₀ (record { next = None; depth = top; at = at' }) stack output'
+    begun-done o a = turned-done t top stack (falling_below t i below w.falling.1) (part_put output at text₀ (code "&" ∷ []) _ last (o, a))
 
-      pub begun-fits : at < length output
-      begun-fits = omega (arith, put_fits output at text₀ (code "&" ∷ []) _ last room.room)
+  -- its item is still to come, and has the words f
+  module _ (h : e < row_bound) {f : Row} (g : f ≡ row_in t.rows.now item) where
+    text : text₀ ≡ text_on (term_of t item) (code "&" ∷ more)
+    unfolding pending
+    text = rw is-item at (item-frame t i inside more e refl is-cell h)
 
-      pub begun-done : (output' : List ℕ) (at' : ℕ) → (output' ≡ set output at (code "&")) × (at' ≡ at + 1) → Turned message words used top output at text₀ (record { next = None; depth = top; at = at' }) stack output'
-      begun-done output' at' s = turned-done message words used top output at text₀ (falling_below message words used i below falls.1) (part_put output at text₀ (code "&" ∷ []) _ last s)
+    -- a leaf is stored, and `&`
+    module _ (k : is_leaf_kind f.kind ≡ true) where
+      leaf : Leaf t item item-inside (code "&" ∷ more) f
+      leaf = leaf_read t item item-inside (code "&" ∷ more) (g ∙ found t item item-inside) k
 
-    -- its item is still to come, and has the words f
-    module _ (h : e < row_bound) (f : Row) (g : f ≡ row_in words item) where
-      read : f ≡ row_at (rows_of used words) item
-      read = g ∙ row_of words used item room.fits item-inside
+      pub leaf-fits : Inside t.message.now f × (at + length (leaf_bytes t.message.now f) ≤ length output)
+      leaf-fits = (leaf.inside, put_fits output at text₀ (leaf_bytes t.message.now f) _ (text ∙ leaf.text) w.room)
 
-      text : text₀ ≡ text_on (term_at message (rows_of used words) item) (code "&" ∷ more)
-      unfolding pending
-      text = rw is-item at (item-frame message words used room.fits room.sound i inside more e refl is-cell h)
+      module _ {output' : List ℕ} {at' : ℕ} (o : output' ≡ sets output at (leaf_bytes t.message.now f)) (a : at' ≡ at + length (leaf_bytes t.message.now f)) where
+        put : Partly output at text₀ output' at' (code "&" ∷ more)
+        put = part_put output at text₀ (leaf_bytes t.message.now f) _ (text ∙ leaf.text) (o, a)
 
-      -- a leaf is stored, and `&`
-      module _ (leaf : is_leaf_kind f.kind ≡ true) where
-        own : F.Leaf message words used room.fits room.sound item item-inside (code "&" ∷ more)
-        own = (F.text message words used room.fits room.sound item item-inside (code "&" ∷ more)).0 (rw read at leaf)
+        pub and-fits : at' < length output'
+        and-fits = omega (arith, part_room output at text₀ put (rw o (length-sets output at (leaf_bytes t.message.now f))) w.room)
 
-        leaf-text : text₀ ≡ leaf_bytes message f ++ (code "&" ∷ more)
-        leaf-text = text ∙ rw read own.text
+        pub item-done : {output'' : List ℕ} {at'' : ℕ} → output'' ≡ set output' at' (code "&") → at'' ≡ at' + 1
+            → Turned t top output at text₀ (record { next = None; depth = top; at = at'' }) stack output''
+        item-done o' a' = turned-done t top stack (falling_below t i below w.falling.1) (part_then output at text₀ put (part_put output' at' (code "&" ∷ more) (code "&" ∷ []) more refl (o', a')))
 
-        pub leaf-fits : Inside message f × (at + length (leaf_bytes message f) ≤ length output)
-        leaf-fits = (rw read (leaf-inside message words used room.fits room.sound item item-inside), put_fits output at text₀ (leaf_bytes message f) _ leaf-text room.room)
-
-        module _ (output' : List ℕ) (at' : ℕ) (s : (output' ≡ sets output at (leaf_bytes message f)) × (at' ≡ at + length (leaf_bytes message f))) where
-          pub and-fits : at' < length output'
-          and-fits =
-              let put = part_put output at text₀ (leaf_bytes message f) _ leaf-text s in
-              omega (arith, part_room output at text₀ put (rw s.0 (length-sets output at (leaf_bytes message f))) room.room)
-
-          pub item-done : (output'' : List ℕ) (at'' : ℕ) → (output'' ≡ set output' at' (code "&")) × (at'' ≡ at' + 1) → Turned message words used top output at text₀ (record { next = None; depth = top; at = at'' }) stack output''
-          item-done output'' at'' t =
-              let put = part_put output at text₀ (leaf_bytes message f) _ leaf-text s in
-              turned-done message words used top output at text₀ (falling_below message words used i below falls.1) (part_then output at text₀ put (part_put output' at' (code "&" ∷ more) (code "&" ∷ []) more refl t))
-
-      -- another row comes next, and the item is begun
-      pub into : top < used → Turned message words used top output at text₀ (record { next = Some (record { 0 = item }); depth = top + 1; at = at }) (set stack top (e + row_bound)) output
-      unfolding pending
-      into t =
-          let same : i ≡ e = row-frame e h in
-          let begun : frame_row (e + row_bound) ≡ i = begun-frame e h ∙ sym same in
-          let frame : frame_on message words used (e + row_bound) more ≡ code "&" ∷ more
-          = begun-item_frame message words used room.fits room.sound i inside more (e + row_bound) begun is-cell (omega arith) in
-          let ahead : coming message words used item ((e + row_bound) ∷ below) ≡ text₀ = ap (text_on (term_at message (rows_of used words) item)) frame ∙ sym text in
-          turned-above message words used top output at text₀ stack t (rw begun (earlier, (of_cell (rw (begun, is-cell)), falls.1))) (rw ahead (part_none output at text₀))
+    -- another row comes next, and the item is begun
+    pub into : Turned t top output at text₀ (record { next = Some (record { 0 = item }); depth = top + 1; at = at }) (set stack top (e + row_bound)) output
+    unfolding pending
+    into =
+        let begun : frame_row (e + row_bound) ≡ i = begun-frame e h ∙ sym (row-frame e h) in
+        let frame : frame_on t (e + row_bound) more ≡ code "&" ∷ more = begun-item_frame t i inside more (e + row_bound) begun is-cell (omega arith) in
+        let ahead : coming t item ((e + row_bound) ∷ below) ≡ text₀ = ap (text_on (term_of t item)) frame ∙ sym text in
+        turned-above t top stack w.top_in_bounds (rw begun (earlier, (of_cell (rw (begun, is-cell)), w.falling.1))) (rw ahead (part_none output at text₀))

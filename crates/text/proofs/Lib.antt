@@ -6,6 +6,8 @@ pub mod Counts
 pub mod Partly
 -- the frames of the walk, and the texts of rows by the rows that they name
 pub mod Frames
+-- what a turn of a frame leaves
+pub mod Turned
 -- from a row down to its first leaf
 pub mod Entering
 -- the fields of a tuple

@@ -1,13 +1,14 @@
 -- The walk over the rows, which stores a plain text from leaf to leaf. A frame is a row of which something is still to come. The frames lie on a stack, their
 -- rows falling towards its top, so that a word for each row used is room enough.
-use Rattle.std.specs.Prelude.{ℕ, ◌+◌, ◌≤◌, ◌<◌, ◌%◌, ◌≡◌, cond, List, [], ◌∷◌, length, T, eqb, ltb, Option, Some, None}
+use Rattle.std.specs.Prelude.{ℕ, ◌+◌, ◌≤◌, ◌<◌, ◌%◌, ◌≡◌, cond, List, [], ◌∷◌, length, eqb, ltb, Option, Some, None}
 use Prim.Native.Char.{code}
 use Rattle.std.proofs.lemmas.List.Edits.{sets}
 use Rattle.format.specs.Bound.{row_bound}
 use Rattle.format.specs.Text.{between, text_on, fields_on}
-use Rattle.format.specs.Rows.{Row, row_at, rows_of, row_room, span_of, fields_of, term_at, cons_kind, field_kind, tag_kind}
-use Rattle.format.specs.Sound.{sound_rows}
+use Rattle.format.specs.Rows.{Row, span_of, fields_of, cons_kind, field_kind, tag_kind}
 use Rattle.format.specs.declared.Row as D
+use Rattle.text.specs.Rows.{row_used, term_of}
+use Rattle.text.specs.declared.rows.Table.{Table}
 
 -- a frame is a row's number, to which the bound is added where the row is a list cell whose item is begun
 unfoldable pub frame_row : ℕ → ℕ
@@ -21,19 +22,16 @@ open_bytes r = cond (eqb r.kind field_kind) (code "{" ∷ []) []
 unfoldable pub first_named : Row → ℕ
 first_named r = cond (eqb r.kind field_kind) r.first (cond (eqb r.kind cons_kind) r.second r.third)
 
--- the first `used` rows of a table, of a message
-module _ (message words : List ℕ) (used : ℕ) where
-  abbrev pub rows : List Row
-  rows = rows_of used words
-
+-- the rows of a sound table
+module _ (t : Table) where
   -- what is still to come of a frame, in front of what comes after it. Of a list cell, whose rest is stored: its item, unless that is begun, and `&`; of a
   -- tuple's field, which is stored: the fields after it and `}`; of a tag, whose inner text is stored: the tag
   unfoldable pub frame_on : ℕ → List ℕ → List ℕ
   frame_on e more =
-      let r = row_at rows (frame_row e) in
-      cond (eqb r.kind cons_kind) (cond (ltb e row_bound) (text_on (term_at message rows r.first) (code "&" ∷ more)) (code "&" ∷ more))
-      (cond (eqb r.kind field_kind) (fields_on (fields_of (term_at message rows r.second)) (code "}" ∷ more))
-      (between (code "`") (span_of message r.first r.second) more))
+      let r = row_used t (frame_row e) in
+      cond (eqb r.kind cons_kind) (cond (ltb e row_bound) (text_on (term_of t r.first) (code "&" ∷ more)) (code "&" ∷ more))
+      (cond (eqb r.kind field_kind) (fields_on (fields_of (term_of t r.second)) (code "}" ∷ more))
+      (between (code "`") (span_of t.message.now r.first r.second) more))
 
   -- what is still to come of the frames, the top first; `$` comes after the whole
   unfoldable pub pending : List ℕ → List ℕ
@@ -42,32 +40,26 @@ module _ (message words : List ℕ) (used : ℕ) where
 
   -- what is still to come where row i comes first
   abbrev pub coming : ℕ → List ℕ → List ℕ
-  coming i frames = text_on (term_at message rows i) (pending frames)
+  coming i frames = text_on (term_of t i) (pending frames)
 
   -- where a tuple's fields come first, those from row i on
   abbrev pub coming_fields : ℕ → List ℕ → List ℕ
-  coming_fields i frames = fields_on (fields_of (term_at message rows i)) (code "}" ∷ pending frames)
+  coming_fields i frames = fields_on (fields_of (term_of t i)) (code "}" ∷ pending frames)
 
   -- the row of a frame names others
   pub data Frame (e : ℕ) : Type 0 where
-    of_cell : (row_at rows (frame_row e)).kind ≡ cons_kind → Frame e
-    of_field : (row_at rows (frame_row e)).kind ≡ field_kind → Frame e
-    of_tag : (row_at rows (frame_row e)).kind ≡ tag_kind → Frame e
+    of_cell : (row_used t (frame_row e)).kind ≡ cons_kind → Frame e
+    of_field : (row_used t (frame_row e)).kind ≡ field_kind → Frame e
+    of_tag : (row_used t (frame_row e)).kind ≡ tag_kind → Frame e
 
   -- row i lies above these frames, whose rows fall towards it
   abbrev pub Above : ℕ → List ℕ → Type 0
-  Above i [] = i < used
+  Above i [] = i < t.used
   Above i (e ∷ frames) = (i < frame_row e) × (Frame e × Above (frame_row e) frames)
 
   abbrev pub Falling : List ℕ → Type 0
   Falling [] = Unit {0}
   Falling (e ∷ frames) = Frame e × Above (frame_row e) frames
-
-  -- a sound table, and room for a text from `at` on
-  pub record Room (text output : List ℕ) (at : ℕ) : Type 0 where
-    pub fits : used ≤ row_room words
-    pub sound : T (sound_rows message rows)
-    pub room : at + length text ≤ length output
 
   -- what is still to come above these frames: a row, if one comes next, and the frames
   unfoldable pub coming_next : Option D.Row → List ℕ → List ℕ

@@ -1,12 +1,12 @@
 //! The bytes of a plain text counted row by row, in any order.
 //! The message is what the rows are sound against; its bytes are not looked at.
-ghost use Rattle.std.specs.Prelude.{◌≡◌, ◌∷◌, ◌++◌, ◌+◌, ◌≤◌, ◌<◌, T, leb, length};
-ghost use Rattle.format.specs.Rows.{rows_of, term_at};
-ghost use Rattle.format.specs.Sound.{sound_table};
+ghost use Rattle.std.specs.Prelude.{◌≡◌, ◌∷◌, ◌++◌, ◌+◌, ◌≤◌, ◌<◌, leb, length};
 ghost use Rattle.format.specs.Text.{plain};
 ghost use Rattle.table.specs.Words.{row_of, last_first};
 ghost use Rattle.measure.specs.Lengths.{named};
+ghost use Rattle.text.specs.Rows.{term_of};
 
+use crate::rows::Table;
 use format::{Row, kind};
 use measure::length;
 use table::RowWords;
@@ -32,16 +32,17 @@ fn put_named(stack: &mut [u32], top: usize, words: RowWords) -> usize
 
 // Whether the plain text of a sound table's root has room. The stack, which has a word for each row used, holds the rows that are still to be counted. The
 // count stops as soon as it has passed the room.
-pub(crate) fn fits(message: &[u8], rows: &[u32], root: Row, stack: &mut [u32], room: usize) -> bool
-    requires { T (sound_table message.now rows.now (length stack.old) root.0) }
-    ensures { result ≡ leb (length (plain (term_at message.now (rows_of (length stack.old) rows.now) root.0))) room }
+pub(crate) fn fits(table: Table, root: Row, stack: &mut [u32], room: usize) -> bool
+    requires among { root.0 < table.used }
+    requires stack_words { table.used ≤ length stack.old }
+    ensures { result ≡ leb (length (plain (term_of table.entry root.0))) room }
 {
     stack[0] = root.0;
     let mut depth = 1;
     let mut left = room;
     while 0 < depth {
         let top = depth - 1;
-        let words = table::load_row(rows, Row(stack[top]));
+        let words = table::load_row(table.rows, Row(stack[top]));
         let n = length::own_length(words) as usize;
         if left < n {
             return false;

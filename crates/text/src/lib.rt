@@ -10,9 +10,11 @@ ghost use Rattle.text.specs.Answers.{written_as, write_rows};
 
 use format::refusal::Refusal;
 use format::{Row, bound};
+use rows::Table;
 
 mod count;
 mod room;
+mod rows;
 mod store;
 mod walk;
 
@@ -30,10 +32,15 @@ fn write_rows(
     if !measure::judge(message, rows, stack) {
         return Err(Refusal::Unsound);
     }
-    if !room::fits(message, rows, root, stack, output.len()) {
+    let table = Table {
+        message,
+        rows,
+        used: stack.len(),
+    };
+    if !room::fits(table, root, stack, output.len()) {
         return Err(Refusal::TooLong);
     }
-    Ok(store::store_text(message, rows, root, stack, output))
+    Ok(store::store_text(table, root, stack, output))
 }
 
 // Writes where the table is sound. The scratch, which has a word for each row used, is left as the walk leaves it.

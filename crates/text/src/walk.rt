@@ -3,8 +3,9 @@ ghost use Rattle.std.specs.Prelude.{◌≡◌, ◌∷◌, ◌+◌, ◌≤◌, �
 ghost use Rattle.std.proofs.lemmas.List.Edits.{sets};
 ghost use Rattle.format.specs.Rows.{is_tuple_kind, cons_kind};
 ghost use Rattle.table.specs.Words.{row_of, last_first, row_in};
-ghost use Rattle.text.specs.Walk.{open_bytes, first_named, frame_row, pending, coming, coming_fields, Above, Falling, Room, coming_next, ReadyNext, Partly};
+ghost use Rattle.text.specs.Walk.{open_bytes, first_named, frame_row, pending, coming, coming_fields, Above, Falling, coming_next, ReadyNext, Partly};
 
+use crate::rows::Table;
 use format::{Offset, Row, bound, byte, kind};
 use leaves::leaf;
 use table::RowWords;
@@ -52,23 +53,23 @@ fn begin(output: &mut [u8], at: usize, words: RowWords) -> Begun
 
 // Stores the first leaf in row `row`, and what stands before it. The rows around the leaf become frames.
 pub(crate) fn put_first(
-    message: &[u8],
-    rows: &[u32],
+    table: Table,
     stack: &mut [u32],
     depth: usize,
     row: Row,
     output: &mut [u8],
     at: usize,
 ) -> Place
-    requires above { Above message.now rows.now (length stack.old) row.0 (last_first stack.old depth) }
-    requires room { Room message.now rows.now (length stack.old) (coming message.now rows.now (length stack.old) row.0 (last_first stack.old depth)) output.old at }
+    requires stack_words { table.used ≤ length stack.old }
+    requires above { Above table row.0 (last_first stack.old depth) }
+    requires room { at + length (coming table row.0 (last_first stack.old depth)) ≤ length output.old }
     ensures next { result.next ≡ None }
-    ensures ready_next { ReadyNext message.now rows.now (length stack.old) result.next (last_first stack.new result.depth) }
-    ensures partly { Partly output.old at (coming message.now rows.now (length stack.old) row.0 (last_first stack.old depth)) output.new result.at (coming_next message.now rows.now (length stack.old) result.next (last_first stack.new result.depth)) }
+    ensures ready_next { ReadyNext table.entry result.next (last_first stack.new result.depth) }
+    ensures partly { Partly output.old at (coming table.entry row.0 (last_first stack.old depth)) output.new result.at (coming_next table.entry result.next (last_first stack.new result.depth)) }
     ensures rises { at < result.at }
 {
     let mut n = row;
-    let mut words = table::read_row(rows, n);
+    let mut words = table::read_row(table.rows, n);
     let mut frames = depth;
     let mut end = at;
     while !leaf::is_leaf(words.kind) {
@@ -77,39 +78,38 @@ pub(crate) fn put_first(
         let begun = begin(output, end, words);
         n = begun.row;
         end = begun.at;
-        words = table::read_row(rows, n);
+        words = table::read_row(table.rows, n);
         frames = above;
     }
     Place {
         next: None,
         depth: frames,
-        at: leaf::put(message, output, end, words),
+        at: leaf::put(table.message, output, end, words),
     }
 }
 
 // Stores the fields of a tuple from row `rest` on, and `}`; or those before one that is no leaf, which comes next. The frame at `top` is the tuple's.
 fn put_fields(
-    message: &[u8],
-    rows: &[u32],
+    table: Table,
     stack: &mut [u32],
     top: usize,
     rest: Row,
     output: &mut [u8],
     at: usize,
 ) -> Place
-    requires top_in_bounds { (top < length stack.old) × T (is_tuple_kind (row_in rows.now rest.0).kind) }
-    requires above { Above message.now rows.now (length stack.old) rest.0 (last_first stack.old top) }
-    requires room { Room message.now rows.now (length stack.old) (coming_fields message.now rows.now (length stack.old) rest.0 (last_first stack.old top)) output.old at }
+    requires top_in_bounds { (top < length stack.old) × T (is_tuple_kind (row_in table.rows.now rest.0).kind) }
+    requires above { Above table rest.0 (last_first stack.old top) }
+    requires room { at + length (coming_fields table rest.0 (last_first stack.old top)) ≤ length output.old }
     ensures depth { MatchOption result.next (result.depth ≡ top) (λ row. result.depth ≡ top + 1) }
-    ensures ready_next { ReadyNext message.now rows.now (length stack.old) result.next (last_first stack.new result.depth) }
-    ensures partly { Partly output.old at (coming_fields message.now rows.now (length stack.old) rest.0 (last_first stack.old top)) output.new result.at (coming_next message.now rows.now (length stack.old) result.next (last_first stack.new result.depth)) }
+    ensures ready_next { ReadyNext table.entry result.next (last_first stack.new result.depth) }
+    ensures partly { Partly output.old at (coming_fields table.entry rest.0 (last_first stack.old top)) output.new result.at (coming_next table.entry result.next (last_first stack.new result.depth)) }
 {
     let mut n = rest;
-    let mut words = table::read_row(rows, n);
+    let mut words = table::read_row(table.rows, n);
     let mut end = at;
     while words.kind == kind::FIELD {
         let first = Row(words.first);
-        let field = table::read_row(rows, first);
+        let field = table::read_row(table.rows, first);
         if !leaf::is_leaf(field.kind) {
             stack[top] = n.0;
             return Place {
@@ -118,9 +118,9 @@ fn put_fields(
                 at: end,
             };
         }
-        end = leaf::put(message, output, end, field);
+        end = leaf::put(table.message, output, end, field);
         n = Row(words.second);
-        words = table::read_row(rows, n);
+        words = table::read_row(table.rows, n);
     }
     Place {
         next: None,
@@ -131,8 +131,7 @@ fn put_fields(
 
 // Stores the item of a list cell and `&`; or nothing yet where the item is no leaf, and comes next. The frame at `top` is the cell's.
 fn put_item(
-    message: &[u8],
-    rows: &[u32],
+    table: Table,
     stack: &mut [u32],
     top: usize,
     item: Row,
@@ -140,12 +139,12 @@ fn put_item(
     at: usize,
 ) -> Place
     requires top_in_bounds { top < length stack.old }
-    requires falling { Falling message.now rows.now (length stack.old) (get_or stack.old top 0 ∷ last_first stack.old top) }
-    requires room { Room message.now rows.now (length stack.old) (pending message.now rows.now (length stack.old) (get_or stack.old top 0 ∷ last_first stack.old top)) output.old at }
-    requires cell { ((row_in rows.now (frame_row (get_or stack.old top 0))).kind ≡ cons_kind) × ((row_in rows.now (frame_row (get_or stack.old top 0))).first ≡ item.0) }
+    requires falling { Falling table (get_or stack.old top 0 ∷ last_first stack.old top) }
+    requires room { at + length (pending table (get_or stack.old top 0 ∷ last_first stack.old top)) ≤ length output.old }
+    requires cell { ((row_in table.rows.now (frame_row (get_or stack.old top 0))).kind ≡ cons_kind) × ((row_in table.rows.now (frame_row (get_or stack.old top 0))).first ≡ item.0) }
     ensures depth { MatchOption result.next (result.depth ≡ top) (λ row. result.depth ≡ top + 1) }
-    ensures ready_next { ReadyNext message.now rows.now (length stack.old) result.next (last_first stack.new result.depth) }
-    ensures partly { Partly output.old at (pending message.now rows.now (length stack.old) (get_or stack.old top 0 ∷ last_first stack.old top)) output.new result.at (coming_next message.now rows.now (length stack.old) result.next (last_first stack.new result.depth)) }
+    ensures ready_next { ReadyNext table.entry result.next (last_first stack.new result.depth) }
+    ensures partly { Partly output.old at (pending table.entry (get_or stack.old top 0 ∷ last_first stack.old top)) output.new result.at (coming_next table.entry result.next (last_first stack.new result.depth)) }
 {
     let frame = stack[top];
     if ITEM_BEGUN <= frame {
@@ -155,9 +154,9 @@ fn put_item(
             at: leaf::put_byte(output, at, byte::AMPERSAND),
         };
     }
-    let words = table::read_row(rows, item);
+    let words = table::read_row(table.rows, item);
     if leaf::is_leaf(words.kind) {
-        let end = leaf::put(message, output, at, words);
+        let end = leaf::put(table.message, output, at, words);
         return Place {
             next: None,
             depth: top,
@@ -173,55 +172,43 @@ fn put_item(
 }
 
 // Stores what is still to come of the frame at `top`, up to a row that is no leaf.
-fn put_frame(
-    message: &[u8],
-    rows: &[u32],
-    stack: &mut [u32],
-    top: usize,
-    output: &mut [u8],
-    at: usize,
-) -> Place
+fn put_frame(table: Table, stack: &mut [u32], top: usize, output: &mut [u8], at: usize) -> Place
     requires top_in_bounds { top < length stack.old }
-    requires falling { Falling message.now rows.now (length stack.old) (get_or stack.old top 0 ∷ last_first stack.old top) }
-    requires room { Room message.now rows.now (length stack.old) (pending message.now rows.now (length stack.old) (get_or stack.old top 0 ∷ last_first stack.old top)) output.old at }
+    requires falling { Falling table (get_or stack.old top 0 ∷ last_first stack.old top) }
+    requires room { at + length (pending table (get_or stack.old top 0 ∷ last_first stack.old top)) ≤ length output.old }
     ensures depth { MatchOption result.next (result.depth ≡ top) (λ row. result.depth ≡ top + 1) }
-    ensures ready_next { ReadyNext message.now rows.now (length stack.old) result.next (last_first stack.new result.depth) }
-    ensures partly { Partly output.old at (pending message.now rows.now (length stack.old) (get_or stack.old top 0 ∷ last_first stack.old top)) output.new result.at (coming_next message.now rows.now (length stack.old) result.next (last_first stack.new result.depth)) }
+    ensures ready_next { ReadyNext table.entry result.next (last_first stack.new result.depth) }
+    ensures partly { Partly output.old at (pending table.entry (get_or stack.old top 0 ∷ last_first stack.old top)) output.new result.at (coming_next table.entry result.next (last_first stack.new result.depth)) }
 {
     let frame = stack[top];
-    let words = table::read_row(rows, Row(frame % ITEM_BEGUN));
+    let words = table::read_row(table.rows, Row(frame % ITEM_BEGUN));
     let k = words.kind;
     let start = Offset(words.first as usize);
     let n = words.second as usize;
     match k {
-        kind::FIELD => put_fields(message, rows, stack, top, Row(words.second), output, at),
+        kind::FIELD => put_fields(table, stack, top, Row(words.second), output, at),
         kind::TAG => Place {
             next: None,
             depth: top,
-            at: leaf::put_quoted(message, output, at, byte::TAG_QUOTE, start, n),
+            at: leaf::put_quoted(table.message, output, at, byte::TAG_QUOTE, start, n),
         },
         // a list cell, the only kind left in a frame
-        _ => put_item(message, rows, stack, top, Row(words.first), output, at),
+        _ => put_item(table, stack, top, Row(words.first), output, at),
     }
 }
 
 // Stores what is still to come of the frames, up to a row that is no leaf.
-pub(crate) fn put_rest(
-    message: &[u8],
-    rows: &[u32],
-    stack: &mut [u32],
-    output: &mut [u8],
-    first: Place,
-) -> Place
-    requires ready_next { ReadyNext message.now rows.now (length stack.old) first.next (last_first stack.old first.depth) }
-    requires room { Room message.now rows.now (length stack.old) (coming_next message.now rows.now (length stack.old) first.next (last_first stack.old first.depth)) output.old first.at }
+pub(crate) fn put_rest(table: Table, stack: &mut [u32], output: &mut [u8], first: Place) -> Place
+    requires stack_words { table.used ≤ length stack.old }
+    requires ready_next { ReadyNext table first.next (last_first stack.old first.depth) }
+    requires room { first.at + length (coming_next table first.next (last_first stack.old first.depth)) ≤ length output.old }
     ensures whole { result.next ≡ None → result.depth ≡ 0 }
-    ensures ready_next { ReadyNext message.now rows.now (length stack.old) result.next (last_first stack.new result.depth) }
-    ensures partly { Partly output.old first.at (coming_next message.now rows.now (length stack.old) first.next (last_first stack.old first.depth)) output.new result.at (coming_next message.now rows.now (length stack.old) result.next (last_first stack.new result.depth)) }
+    ensures ready_next { ReadyNext table.entry result.next (last_first stack.new result.depth) }
+    ensures partly { Partly output.old first.at (coming_next table.entry first.next (last_first stack.old first.depth)) output.new result.at (coming_next table.entry result.next (last_first stack.new result.depth)) }
 {
     let mut place = first;
     while place.next.is_none() && 0 < place.depth {
-        place = put_frame(message, rows, stack, place.depth - 1, output, place.at);
+        place = put_frame(table, stack, place.depth - 1, output, place.at);
     }
     place
 }

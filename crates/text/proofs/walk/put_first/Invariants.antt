@@ -4,7 +4,8 @@ use Rattle.text.proofs.Entering.{Entering}
 use Rattle.text.proofs.walk.put_first.Given as goal
 
 abbrev pub invariant-loop-n : goal.invariant-loop-n
-invariant-loop-n l = Entering l.message l.rows l.initial.stack l.initial.output l.initial.n.0 l.initial.frames l.initial.end l.stack l.output l.n.0 (row_of l.words) l.frames l.end
+invariant-loop-n l =
+    Entering l.table l.initial.stack l.initial.output l.initial.n.0 l.initial.frames l.initial.end l.stack l.output l.n.0 (row_of l.words) l.frames l.end
 
 abbrev pub decreases-loop-n : goal.decreases-loop-n
 decreases-loop-n l = l.n.0
