@@ -4,7 +4,6 @@ pub mod Widths
 pub mod Numbers
 -- the constant tables, and what a known name says
 pub mod Names
-pub mod Answered
 pub mod Tags
 -- word k of a block, and the rows that are one
 pub mod Blocks

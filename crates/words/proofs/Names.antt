@@ -1,146 +1,152 @@
--- The constant tables follow the definition's list of formats, entry by entry, and the search through them finds what the definition finds.
-use Prim.Native.Nat.{ℕ, zero, suc, ◌+◌, ◌*◌, ◌<◌}
+-- The table of the known names follows the definition's list of formats, entry by entry, and the search through it finds what the definition finds.
+use Prim.Native.Nat.{ℕ, ◌+◌, ◌*◌, ◌^◌, ◌<◌, ◌≤◌}
 use mathlib.Core.Path.{◌≡◌, refl, ap, sym, ◌∙◌}
-use mathlib.Core.Bool.{Bool, true, false, ◌&&◌}
-use mathlib.Core.Option.{Option, none, some}
+use mathlib.Core.Bool.{Bool, true, false, ◌&&◌, ◌||◌, cond}
+use mathlib.Core.Option as M
+use mathlib.Core.Option.{none, some}
 use mathlib.Core.List.{List, [], ◌∷◌, map}
-use native.Mathlib.Numerals.{add-one}
 use native.Mathlib.Omega.{arith}
-use lib.ListN.{length, get_or, drop, get_or-map}
+use lib.ListN.{length, get_or, drop}
 use lib.Seq.{drop-cons}
-use lib.Dec.{T, leb, leb→le, ltb, ltb→lt}
-use lib.Pow.{are_bytes}
-use Rattle.format.specs.Byte.{bytes_of, same_bytes}
+use Rattle.std.proofs.lemmas.List.{drop_all}
+use native.Mathlib.Numerals.{add-one}
+use lib.Dec.{T, eqb}
+use lib.Pow.{are_bytes, pow-add, pow_mono}
+use lib.Dec.{ltb}
+use Rattle.std.proofs.lemmas.Bool.{false≢true}
+use borrow.Author.Tests.{eq-eqb, ne_eqb, ltb-true, ltb-false}
+use Rattle.std.specs.List.{find, list_all}
+use Rattle.std.specs.Option.{option_map}
+use Rattle.format.specs.Byte.{same_bytes}
+use Rattle.format.specs.Byte as B
 use Rattle.format.specs.Word as F
 use Rattle.format.specs.Word.{format, formats, format_in, join_after, joined, big}
 use Rattle.format.proofs.SameBytes.{same_bytes_lem, same_refl}
 use Rattle.format.proofs.Tests.{left_of, right_of}
-use Rattle.words.specs.declared.formats.Order.{Order}
-use Rattle.words.specs.declared.formats.Found.TheVariants.{Known, Unknown}
-use Rattle.words.specs.Known.{no_format, order_as, layout_of, layout_at, found}
-use Rattle.words.proofs.Joins.{joined_same}
+use Rattle.std.specs.declared.option.Option.{Option}
+use Rattle.std.specs.declared.option.Option.TheVariants.{Some, None}
+use Rattle.words.specs.declared.formats.Format.{Format}
+use Rattle.words.specs.Known.{name_number, format_of, nameless, said, found}
+use Rattle.words.proofs.Joins.{joined_same, joined-below, bytes_of}
 
--- the tables of what the names say
-pub record LayoutTables (widths : List ℕ) (signs : List Bool) (orders : List Order) : Type 0 where
-  pub width : widths ≡ map (λ (f : F.Format). f.width) formats
-  pub sign : signs ≡ map (λ (f : F.Format). f.signed) formats
-  pub order : orders ≡ map (λ (f : F.Format). order_as f.order) formats
+-- numbers of names with other lengths differ
+shorter_below : (x y : List ℕ) → T (are_bytes x) → length x < length y → name_number x < name_number y
+shorter_below x y p h =
+    let more : 2 ^ (8 * length x + 1) ≤ 2 ^ (8 * length y) = pow_mono {i = 8 * length x + 1} {j = 8 * length y} (omega arith) in
+    omega (arith, joined-below big x p, pow-add 2 (8 * length x) 1)
 
-pub tables-at : (widths : List ℕ) (signs : List Bool) (orders : List Order) → LayoutTables widths signs orders
-    → (i : ℕ) → record { width = get_or widths i 0; signed = get_or signs i false; order = get_or orders i (order_as big) } ≡ layout_at i
-unfolding layout_at layout_of no_format
-tables-at widths signs orders t i =
-    rw (t.width, t.sign, t.order, get_or-map (λ (f : F.Format). f.width) formats i no_format, get_or-map (λ (f : F.Format). f.signed) formats i no_format, get_or-map (λ (f : F.Format). order_as f.order) formats i no_format) refl
-
--- a name is found at the head of a list of formats, or it is not the head's
-head_found : (f : F.Format) (fs : List F.Format) (name : List ℕ) → f.name ≡ name → format_in (f ∷ fs) name ≡ some f
-unfolding format_in
-head_found f fs name e = let same : same_bytes f.name name ≡ true = ap (same_bytes f.name) (sym e) ∙ same_refl f.name in rw (format_in, same) refl
-
-head_passed : (f : F.Format) (fs : List F.Format) (name : List ℕ) → (f.name ≡ name → ⊥) → format_in (f ∷ fs) name ≡ format_in fs name
-unfolding format_in
-head_passed f fs name h = by (same_bytes f.name name) refl
+number_same : (x y : List ℕ) → T (are_bytes x) → T (are_bytes y) → name_number x ≡ name_number y → x ≡ y
+number_same x y p q e = by (ltb (length x) (length y)) (ltb (length y) (length x)) refl refl
   where
-    by : (q : Bool) → same_bytes f.name name ≡ q → elim (same_bytes f.name name) [ true ↦ some f | false ↦ format_in fs name ] ≡ format_in fs name
-    by true e = absurd (h (same_bytes_lem f.name name e))
-    by false e = rw e refl
+    by : (a b : Bool) → ltb (length x) (length y) ≡ a → ltb (length y) (length x) ≡ b → x ≡ y
+    by true b s t = absurd (omega (arith, e, shorter_below x y p (ltb-true (length x) (length y) s)))
+    by false true s t = absurd (omega (arith, e, shorter_below y x q (ltb-true (length y) (length x) t)))
+    by false false s t =
+        let l : length x ≡ length y = omega (arith, ltb-false (length x) (length y) s, ltb-false (length y) (length x) t) in
+        let high : 2 ^ (8 * length x) ≡ 2 ^ (8 * length y) = ap (λ (n : ℕ). 2 ^ (8 * n)) l in
+        joined_same x y l p q (omega (arith, e, high))
 
--- a test that every format of a list passes, and that the format found has passed
-unfoldable every : (F.Format → Bool) → List F.Format → Bool
-every test [] = true
-every test (f ∷ fs) = test f && every test fs
+-- an entry of the table, and the one that a format has there: the name as a number, and what it says
+pub record Entry : Type 0 where
+  pub name : ℕ
+  pub says : F.Format
 
-at-passes : (test : F.Format → Bool) → T (test no_format) → (fs : List F.Format) → T (every test fs) → (i : ℕ) → T (test (get_or fs i no_format))
-unfolding every
-at-passes test n [] t i = n
-at-passes test n (f ∷ fs) t zero = left_of (test f) (every test fs) t
-at-passes test n (f ∷ fs) t (suc i) = at-passes test n fs (right_of (test f) (every test fs) t) i
+abbrev pub entry : Format → Entry
+entry e = record { name = e.name; says = format_of e.layout }
 
-found-passes : (test : F.Format → Bool) (fs : List F.Format) → T (every test fs) → (name : List ℕ) (f : F.Format) → format_in fs name ≡ some f → T (test f) × (f.name ≡ name)
-unfolding every format_in
-found-passes test [] t name f e = let z : ◌≡◌ {A = ℕ} 0 1 = cc in absurd (omega arith)
-found-passes test (g ∷ fs) t name f e = by (same_bytes g.name name) refl (found-passes test fs (right_of (test g) (every test fs) t) name f)
-  where
-    by : (q : Bool) → same_bytes g.name name ≡ q → (format_in fs name ≡ some f → T (test f) × (f.name ≡ name)) → T (test f) × (f.name ≡ name)
-    by true s more =
-        let told : some g ≡ some f = rw (format_in, s) at e in
-        let h : g ≡ f = cc in
-        rw (← h) (left_of (test g) (every test fs) t, same_bytes_lem g.name name s)
-    by false s more = more (rw (format_in, s) at e)
+abbrev pub entry_of : F.Format → Entry
+entry_of f = record { name = name_number f.name; says = nameless f }
 
--- of the known names: they are bytes, at most five; their words have a byte or more, and fewer bits than an answer
+-- the names are bytes, five or two of them
 abbrev spelt : F.Format → Bool
-spelt f = are_bytes f.name && leb (length f.name) 5
+spelt f = are_bytes f.name && (eqb (length f.name) 5 || eqb (length f.name) 2)
 
-abbrev sized : F.Format → Bool
-sized f = ltb 0 f.width && ltb (8 * f.width) 64
+all_spelt : T (list_all spelt formats)
+unfolding formats format B.bytes_of
+all_spelt = tt
 
-known_bytes : (i : ℕ) → T (are_bytes (get_or formats i no_format).name)
-unfolding formats format bytes_of every no_format
-known_bytes i = let f = get_or formats i no_format in left_of (are_bytes f.name) (leb (length f.name) 5) (at-passes spelt tt formats tt i)
-
-pub known-size : (name : List ℕ) (f : F.Format) → format_in formats name ≡ some f → (0 < f.width) × (8 * f.width < 64)
-unfolding formats format every
-known-size name f e =
-    let passes = (found-passes sized formats tt name f e).0 in
-    (ltb→lt 0 f.width (left_of (ltb 0 f.width) (ltb (8 * f.width) 64) passes), ltb→lt (8 * f.width) 64 (right_of (ltb 0 f.width) (ltb (8 * f.width) 64) passes))
-
-pub long-unknown : (name : List ℕ) → 5 < length name → found (format_in formats name) ≡ Unknown
-unfolding formats format bytes_of every found
-long-unknown name h = by (format_in formats name) refl
+-- an entry passes the search where its format has the name that is looked for
+name_tested : (e : Format) (f : F.Format) → entry e ≡ entry_of f → T (are_bytes f.name) → (name : List ℕ) → T (are_bytes name)
+    → eqb e.name (name_number name) ≡ same_bytes f.name name
+name_tested e f m p name q = by (same_bytes f.name name) refl
   where
-    by : (o : Option F.Format) → format_in formats name ≡ o → found o ≡ Unknown
-    by none e = refl
-    by (some f) e =
-        let passes = found-passes spelt formats tt name f e in
-        let fits = leb→le (length f.name) 5 (right_of (are_bytes f.name) (leb (length f.name) 5) passes.0) in
-        absurd (omega (arith, ap (λ (l : List ℕ). length l) passes.1))
+    number : e.name ≡ name_number f.name
+    number = ap (λ (x : Entry). x.name) m
 
--- the tables of the names: each as a number, and its count of bytes
-pub record NameTables (names bytes : List ℕ) : Type 0 where
-  pub numbers : names ≡ map (λ (f : F.Format). joined big f.name) formats
-  pub counts : bytes ≡ map (λ (f : F.Format). length f.name) formats
+    by : (s : Bool) → same_bytes f.name name ≡ s → eqb e.name (name_number name) ≡ s
+    by true s = eq-eqb e.name (name_number name) (number ∙ ap name_number (same_bytes_lem f.name name s))
+    by false s = ne_eqb e.name (name_number name) (λ d. let same = ap (same_bytes f.name) (number_same f.name name p q (sym number ∙ d)) in false≢true (sym s ∙ sym same ∙ same_refl f.name))
 
--- a name of n bytes, whose number is `number`, is none of the first i
-abbrev pub Passed : ℕ → ℕ → ℕ → Type 0
-Passed n number i = (name : List ℕ) → T (are_bytes name) → length name ≡ n → number ≡ joined big name → format_in formats name ≡ format_in (drop i formats) name
+-- what the search through a table answers that follows a list of formats, each with a name of bytes
+find-follows : (es : List Format) (fs : List F.Format) → map entry es ≡ map entry_of fs → T (list_all spelt fs) → (name : List ℕ) → T (are_bytes name)
+    → said (option_map (λ e. e.layout) (find (λ e. eqb e.name (name_number name)) es)) ≡ found (format_in fs name)
+unfolding format_in said found
+find-follows [] [] m s name q = refl
+find-follows [] (f ∷ fs) m s name q = cc
+find-follows (e ∷ es) [] m s name q = cc
+find-follows (e ∷ es) (f ∷ fs) m s name q =
+    let here : entry e ≡ entry_of f = cc in
+    let rest : map entry es ≡ map entry_of fs = cc in
+    let test = name_tested e f here (left_of (are_bytes f.name) (eqb (length f.name) 5 || eqb (length f.name) 2) (left_of (spelt f) (list_all spelt fs) s)) name q in
+    rw test (by (same_bytes f.name name) (ap (λ (x : Entry). x.says) here) (find-follows es fs rest (right_of (spelt f) (list_all spelt fs) s) name q))
+  where
+    by : (b : Bool) → format_of e.layout ≡ (entry_of f).says
+        → said (option_map (λ e. e.layout) (find (λ e. eqb e.name (name_number name)) es)) ≡ found (format_in fs name)
+        → said (option_map (λ e. e.layout) (cond b (Some e) (find (λ e. eqb e.name (name_number name)) es))) ≡ found (elim b [ true ↦ some f | false ↦ format_in fs name ])
+    by true says more = ap Some says
+    by false says more = more
 
-pub none_passed : (n number : ℕ) → Passed n number 0
-none_passed n number name p l e = refl
+-- a name of another length is not there
+other-passed : (fs : List F.Format) → T (list_all spelt fs) → (name : List ℕ) → (length name ≡ 5 → ⊥) → (length name ≡ 2 → ⊥) → format_in fs name ≡ none
+unfolding format_in
+other-passed [] s name h g = refl
+other-passed (f ∷ fs) s name h g =
+    by (same_bytes f.name name) refl (right_of (are_bytes f.name) (eqb (length f.name) 5 || eqb (length f.name) 2) (left_of (spelt f) (list_all spelt fs) s))
+    (other-passed fs (right_of (spelt f) (list_all spelt fs) s) name h g)
+  where
+    by : (b : Bool) → same_bytes f.name name ≡ b → T (eqb (length f.name) 5 || eqb (length f.name) 2) → format_in fs name ≡ none
+        → elim b as (λ _. M.Option F.Format) [ true ↦ some f | false ↦ format_in fs name ] ≡ none
+    by true e own more =
+        let same : length name ≡ length f.name = sym (ap (λ (l : List ℕ). length l) (same_bytes_lem f.name name e)) in
+        absurd (rw (ne_eqb (length f.name) 5 (λ d. h (same ∙ d)), ne_eqb (length f.name) 2 (λ d. g (same ∙ d))) at own)
+    by false e own more = more
 
-module _ (names bytes : List ℕ) (t : NameTables names bytes) (n number i : ℕ) (h : i < 10) (p : Passed n number i) where
-  abbrev f : F.Format
-  f = get_or formats i no_format
+pub other-unknown : (name : List ℕ) → (length name ≡ 5 → ⊥) → (length name ≡ 2 → ⊥) → said None ≡ found (format_in formats name)
+unfolding said found
+other-unknown name h g = rw (other-passed formats all_spelt name h g) refl
 
-  rest : drop i formats ≡ f ∷ drop (suc i) formats
-  unfolding formats format
-  rest = drop-cons formats i no_format h
+-- what the code answers: the layout of the entry that the search finds
+table-found : (table : List Format) → map entry table ≡ map entry_of formats → (name : List ℕ) → ((i : ℕ) → get_or name i 0 < 256) → (number : ℕ)
+    → number ≡ name_number name
+    → (o : Option Format) → find (λ e. eqb e.name number) table ≡ o → said (option_map (λ e. e.layout) o) ≡ found (format_in formats name)
+table-found table m name known number n o f = rw (← f, n) (find-follows table formats m all_spelt name (bytes_of name (λ i u. known i)))
 
-  number_at : get_or names i 0 ≡ joined big f.name
-  unfolding no_format joined join_after
-  number_at = rw t.numbers (get_or-map (λ (g : F.Format). joined big g.name) formats i no_format)
+-- the table follows the definition's list, and what is looked for is no entry before the i-th
+pub record Passed (number i : ℕ) (table : List Format) : Type 0 where
+  pub follows : map entry table ≡ map entry_of formats
+  pub same : find (λ e. eqb e.name number) (drop i table) ≡ find (λ e. eqb e.name number) table
 
-  count_at : get_or bytes i 0 ≡ length f.name
-  unfolding no_format
-  count_at = rw t.counts (get_or-map (λ (g : F.Format). length g.name) formats i no_format)
+-- a name of bytes, and its number
+module _ (name : List ℕ) (known : (i : ℕ) → get_or name i 0 < 256) (number : ℕ) (e : number ≡ name_number name) (table : List Format) (i : ℕ) (p : Passed number i table) where
+  abbrev answer : Option F.Format
+  answer = found (format_in formats name)
 
-  -- it is not this one either
-  one_passed : (name : List ℕ) → format_in formats name ≡ format_in (drop i formats) name → (f.name ≡ name → ⊥) → format_in formats name ≡ format_in (drop (i + 1) formats) name
-  one_passed name e d = rw (add-one i) (e ∙ ap (λ (fs : List F.Format). format_in fs name) rest ∙ head_passed f (drop (suc i) formats) name d)
+  abbrev is : Format → Bool
+  is f = eqb f.name number
 
-  pub number-differs : (get_or names i 0 ≡ number → ⊥) → Passed n number (i + 1)
-  number-differs d name q l e = one_passed name (p name q l e) (λ s. d (number_at ∙ ap (joined big) s ∙ sym e))
+  -- the i-th entry
+  module _ (h : i < length table) (d : Format) where
+    abbrev f : Format
+    f = get_or table i d
 
-  pub count-differs : (get_or bytes i 0 ≡ n → ⊥) → Passed n number (i + 1)
-  count-differs d name q l e = one_passed name (p name q l e) (λ s. d (count_at ∙ ap (λ (x : List ℕ). length x) s ∙ l))
+    rest : find is table ≡ cond (is f) (Some f) (find is (drop (i + 1) table))
+    rest = sym p.same ∙ ap (find is) (drop-cons table i d h) ∙ rw add-one refl
 
-  -- it is this one
-  pub name-found : get_or names i 0 ≡ number → get_or bytes i 0 ≡ n → (name : List ℕ) → T (are_bytes name) → length name ≡ n → number ≡ joined big name → found (format_in formats name) ≡ Known (layout_at i)
-  unfolding found layout_at
-  name-found d c name q l e =
-      let same = joined_same f.name name (sym count_at ∙ c ∙ sym l) (known_bytes i) q (sym number_at ∙ d ∙ e) in
-      rw (p name q l e ∙ ap (λ (fs : List F.Format). format_in fs name) rest ∙ head_found f (drop (suc i) formats) name same) refl
+    pub one_passed : (f.name ≡ number → ⊥) → Passed number (i + 1) table
+    one_passed q = record { follows = p.follows; same = sym (rw (ne_eqb f.name number q) at rest) }
 
-pub all_passed : (n number : ℕ) → Passed n number 10 → (name : List ℕ) → T (are_bytes name) → length name ≡ n → number ≡ joined big name → found (format_in formats name) ≡ Unknown
-unfolding formats format found format_in
-all_passed n number p name q l e = rw (p name q l e) refl
+    pub one-found : f.name ≡ number → said (Some f.layout) ≡ answer
+    one-found q = table-found table p.follows name known number e (Some f) (rest ∙ rw (eq-eqb f.name number q) refl)
+
+  pub none-found : length table ≤ i → said None ≡ answer
+  none-found h = table-found table p.follows name known number e None (sym p.same ∙ rw (drop_all i table h) refl)

@@ -1,6 +1,6 @@
 -- What a row of a sound table, and the row that it wraps, say of the words under them.
 use Prim.Native.Nat.{ℕ, ◌+◌, ◌≤◌, ◌<◌}
-use mathlib.Core.Path.{◌≡◌, refl, ◌∙◌}
+use mathlib.Core.Path.{◌≡◌, refl, sym, ◌∙◌}
 use mathlib.Core.Bool.{true, false}
 use mathlib.Core.Option.{Option, none, some}
 use mathlib.Core.List.{List}
@@ -21,26 +21,22 @@ use Rattle.format.proofs.TableRows as R
 use Rattle.format.proofs.TableRows.{length-rows, Passed, passed, judged}
 use Rattle.table.specs.Words.{row_in}
 use Rattle.table.proofs.Rows.{row_of}
-use Rattle.words.specs.declared.Word.{Word}
-use Rattle.words.specs.declared.Word.TheVariants.{Refused}
 use Rattle.words.specs.Known.{word_of_rows}
-use Rattle.words.proofs.Answered.{Answers, refuses}
 
 -- the two rows by their kinds
 module _ (message : List ℕ) (tag block : Row) (k : ℕ) where
-  pub no_tag : (tag.kind ≡ tag_kind → ⊥) → Answers (Refused 18) (word_of_rows message tag block k)
+  pub no_tag : (tag.kind ≡ tag_kind → ⊥) → no_word 18 ≡ word_of_rows message tag block k
   unfolding word_of_rows
-  no_tag h = refuses 18 _ (omega arith) (rw (ne_eqb tag.kind tag_kind h) refl)
+  no_tag h = rw (ne_eqb tag.kind tag_kind h) refl
 
   module _ (t : tag.kind ≡ tag_kind) where
-    pub no_binary : (block.kind ≡ binary_kind → ⊥) → Answers (Refused 18) (word_of_rows message tag block k)
+    pub no_binary : (block.kind ≡ binary_kind → ⊥) → no_word 18 ≡ word_of_rows message tag block k
     unfolding word_of_rows
-    no_binary h = refuses 18 _ (omega arith) (rw (eq-eqb tag.kind tag_kind t, ne_eqb block.kind binary_kind h) refl)
+    no_binary h = rw (eq-eqb tag.kind tag_kind t, ne_eqb block.kind binary_kind h) refl
 
-    pub word_of : block.kind ≡ binary_kind → (r : Word) → Answers r (word_named (format_in formats (span_of message tag.first tag.second)) (T.binary (span_of message block.first block.second)) k)
-        → Answers r (word_of_rows message tag block k)
+    pub word_of : block.kind ≡ binary_kind → word_named (format_in formats (span_of message tag.first tag.second)) (T.binary (span_of message block.first block.second)) k ≡ word_of_rows message tag block k
     unfolding word_of_rows
-    word_of b r a = rw (eq-eqb tag.kind tag_kind t, eq-eqb block.kind binary_kind b) a
+    word_of b = rw (eq-eqb tag.kind tag_kind t, eq-eqb block.kind binary_kind b) refl
 
 -- 18 for all but a binary under a tag, whatever its name
 no_block : (o : Option F.Format) (t : Term) (k : ℕ) → ((f : F.Format) → word_under f t k ≡ no_word 18) → word_named o t k ≡ no_word 18
@@ -89,13 +85,13 @@ module _ (message words : List ℕ) (used root k : ℕ) where
   abbrev answer : F.Word
   answer = word_answer message words used root k
 
-  pub over-bound : message_bound < length message → Answers (Refused 1) answer
+  pub over-bound : message_bound < length message → no_word 1 ≡ answer
   unfolding word_answer over_bound
-  over-bound h = refuses 1 answer (omega arith) (rw (lt-ltb message_bound (length message) h) refl)
+  over-bound h = rw (lt-ltb message_bound (length message) h) refl
 
-  pub unsound : length message ≤ message_bound → sound_table message words used root ≡ false → Answers (Refused 16) answer
+  pub unsound : length message ≤ message_bound → sound_table message words used root ≡ false → no_word 16 ≡ answer
   unfolding word_answer over_bound
-  unsound short e = refuses 16 answer (omega arith) (rw (le-ltb message_bound (length message) short, e) refl)
+  unsound short e = rw (le-ltb message_bound (length message) short, e) refl
 
 -- the table is sound; its row `root`, and the row that this one names third
 module _ (message words : List ℕ) (used root : ℕ) (sound : sound_table message words used root ≡ true) (tag block : Row) (t : tag ≡ row_in words root) (b : block ≡ row_in words tag.third) where
@@ -149,6 +145,6 @@ module _ (message words : List ℕ) (used root : ℕ) (sound : sound_table messa
       (λ e. rw (tag-term e) (under e k))
       (λ q. rw q (not-tag message rows tested.rows k root root-among (λ e. eqb-false tag.kind tag_kind q (rw tag-row e))))
 
-  pub table-word : (k : ℕ) → length message ≤ message_bound → (r : Word) → Answers r (word_of_rows message tag block k) → Answers r (word_answer message words used root k)
+  pub table-word : (k : ℕ) → length message ≤ message_bound → word_of_rows message tag block k ≡ word_answer message words used root k
   unfolding word_answer over_bound
-  table-word k short r a = rw (le-ltb message_bound (length message) short, sound, term-word k) a
+  table-word k short = rw (le-ltb message_bound (length message) short, sound) (sym (term-word k))

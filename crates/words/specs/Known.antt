@@ -1,50 +1,39 @@
--- The known names as the constant tables have them, and the order in which bytes are joined; for the functions inside.
-use Rattle.std.specs.Prelude.{ℕ, ◌-◌, false, not, cond, List, [], get_or, eqb}
-use Rattle.std.proofs.Math.Option.{Option, none, some}
+-- What the search for a name answers, in the definitions' own formats, and word k of two rows; for the functions inside.
+use Rattle.std.specs.Prelude.{ℕ, ◌+◌, ◌*◌, ◌^◌, not, cond, List, [], eqb, Option, Some, None, length}
+use Rattle.std.proofs.Math.Option as M
 use Rattle.format.specs.Rows.{Row, binary_kind, tag_kind, span_of}
 use Rattle.format.specs.Term as T
 use Rattle.format.specs.Word as F
-use Rattle.format.specs.Word.{formats, format_in, no_word, word_named}
-use Rattle.words.specs.declared.formats.Order.{Order}
-use Rattle.words.specs.declared.formats.Order.TheVariants.{Big, Little}
-use Rattle.words.specs.declared.formats.Layout.{Layout}
-use Rattle.words.specs.declared.formats.Found.{Found}
-use Rattle.words.specs.declared.formats.Found.TheVariants.{Known, Unknown}
+use Rattle.format.specs.Word.{formats, joined, format_in, no_word, word_named}
+use Rattle.words.specs.declared.layout.Order.{Order}
+use Rattle.words.specs.declared.layout.Order.TheVariants.{Big, Little}
+use Rattle.words.specs.declared.layout.Layout.{Layout}
 
--- a byte order of the code, and one of the definitions
+-- a byte order of the code, as the definitions have it
 unfoldable pub order_of : Order → F.Order
 order_of Big = F.big
 order_of Little = F.little
 
-unfoldable pub order_as : F.Order → Order
-order_as F.big = Big
-order_as F.little = Little
-
--- what a format says of its words
-unfoldable pub layout_of : F.Format → Layout
-layout_of f = record { width = f.width; signed = f.signed; order = order_as f.order }
-
--- a format that says so; its name does not matter
+-- a format that says what a layout says; its name does not matter
 unfoldable pub format_of : Layout → F.Format
 format_of l = record { name = []; width = l.width; signed = l.signed; order = order_of l.order }
 
--- what stands where no format is; nobody asks
-unfoldable pub no_format : F.Format
-no_format = record { name = []; width = 0; signed = false; order = F.big }
+-- a name as a number: a byte 1 and the name's bytes, joined as those of a big-endian word
+abbrev pub name_number : List ℕ → ℕ
+name_number name = 2 ^ (8 * length name) + joined F.big name
 
--- what the name that stands i-th among the known ones says
-unfoldable pub layout_at : ℕ → Layout
-layout_at i = layout_of (get_or formats i no_format)
+-- a format without its name
+abbrev pub nameless : F.Format → F.Format
+nameless f = record { name = []; width = f.width; signed = f.signed; order = f.order }
 
--- what a name says
-unfoldable pub found : Option F.Format → Found
-found none = Unknown
-found (some f) = Known (layout_of f)
+-- what a search for a name answers: in the code's layouts, and in the definitions' formats
+unfoldable pub said : Option Layout → Option F.Format
+said None = None
+said (Some l) = Some (format_of l)
 
--- which of n bytes is joined i-th
-unfoldable pub place_of : F.Order → ℕ → ℕ → ℕ
-place_of F.big n i = i
-place_of F.little n i = n - 1 - i
+unfoldable pub found : M.Option F.Format → Option F.Format
+found M.none = None
+found (M.some f) = Some (nameless f)
 
 -- word k of a row and the row that it wraps, by their kinds and their own bytes: 18 where they are no tag and no binary
 unfoldable pub word_of_rows : List ℕ → Row → Row → ℕ → F.Word

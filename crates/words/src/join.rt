@@ -1,56 +1,39 @@
-//! Bytes joined to a word, one by one, in either order.
-ghost use Rattle.std.specs.Prelude.{◌≡◌, ◌+◌, ◌*◌, ◌^◌, ◌≤◌, ◌<◌, cond, pos, length};
+//! Bytes joined to a word, in either order.
+ghost use Rattle.std.specs.Prelude.{◌≡◌, ◌*◌, ◌^◌, ◌≤◌, ◌<◌, cond, pos, length};
 ghost use Rattle.format.specs.Bits.{from_bits};
-ghost use Rattle.format.specs.Rows.{span_of};
 ghost use Rattle.format.specs.Word.{joined};
-ghost use Rattle.words.specs.Known.{order_of, place_of};
+ghost use Rattle.words.specs.Known.{order_of};
 
-use crate::formats::Order;
-use format::Offset;
-
-// How many values a byte has.
-const BYTE_VALUES: u64 = 256;
+use crate::layout::{Layout, Order};
 
 // Bits of a byte.
-const BYTE_BITS: usize = 8;
+pub(crate) const BYTE_BITS: usize = 8;
 
-// Which of n bytes is joined i-th.
-fn place(order: Order, n: usize, i: usize) -> usize
-    requires { i < n }
-    ensures { result ≡ place_of (order_of order) n i }
+// Bytes joined in an order.
+pub(crate) fn join(bytes: &[u8], order: Order) -> u64
+    requires { 8 * length bytes.now ≤ 64 }
+    ensures { result ≡ joined (order_of order) bytes.now }
 {
     match order {
-        Order::Big => i,
-        Order::Little => n - 1 - i,
+        Order::Big => bytes
+            .iter()
+            .fold(0, |high, b| high << BYTE_BITS | u64::from(*b)),
+        Order::Little => bytes
+            .iter()
+            .rev()
+            .fold(0, |high, b| high << BYTE_BITS | u64::from(*b)),
     }
 }
 
-// The n bytes from `start` on, joined in an order.
-pub(crate) fn join(message: &[u8], start: Offset, n: usize, order: Order) -> u64
-    requires { (start.0 + n ≤ length message.now) × (8 * n ≤ 64) }
-    ensures { result ≡ joined (order_of order) (span_of message.now start.0 n) }
+// The number that the bits of a word are: two's complement where it is signed.
+pub(crate) fn number(bits: u64, layout: Layout) -> i64
+    requires { bits < 2 ^ (8 * layout.width) }
+    ensures { result ≡ cond layout.signed (from_bits (8 * layout.width) bits) (pos bits) }
 {
-    let from = start.0;
-    let mut value = 0;
-    let mut i = 0;
-    while i < n {
-        let next = i + 1;
-        let b = message[from + place(order, n, i)];
-        value = value * BYTE_VALUES + (b as u64);
-        i = next;
-    }
-    value
-}
-
-// The number that the bits of so many bytes are: two's complement where it is signed.
-pub(crate) fn number(bits: u64, width: usize, signed: bool) -> i64
-    requires { (0 < width) × (8 * width < 64) × (bits < 2 ^ (8 * width)) }
-    ensures { result ≡ cond signed (from_bits (8 * width) bits) (pos bits) }
-{
-    if !signed {
+    if !layout.signed {
         return bits as i64;
     }
-    let values = 1u64 << (BYTE_BITS * width);
+    let values = 1u64 << (BYTE_BITS * layout.width);
     if bits < values / 2 {
         return bits as i64;
     }

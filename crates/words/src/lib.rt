@@ -1,7 +1,7 @@
 //! Sensor words: word k of a sensor block (01's word block), in the byte order that its tag names.
 #![tactic(auto)]
 
-ghost use Rattle.std.specs.Prelude.{◌≡◌, ◌+◌, ◌*◌, ◌≤◌, ◌<◌, length};
+ghost use Rattle.std.specs.Prelude.{◌≡◌, ◌+◌, ◌≤◌, length};
 ghost use Rattle.format.specs.Answer.{word_answer};
 ghost use Rattle.format.specs.Rows.{binary_kind, tag_kind, span_of};
 ghost use Rattle.format.specs.Term.{binary};
@@ -10,12 +10,13 @@ ghost use Rattle.table.specs.Words.{row_of};
 ghost use Rattle.words.specs.Answers.{word_as};
 ghost use Rattle.words.specs.Known.{format_of, word_of_rows};
 
-use crate::formats::{Found, Layout};
-use format::{Offset, Row, bound, kind, refusal};
+use crate::layout::Layout;
+use format::{Row, bound, kind, refusal};
 use table::RowWords;
 
 mod formats;
 mod join;
+mod layout;
 
 // A word, or a refusal's number.
 #[derive(Clone, Copy)]
@@ -24,42 +25,42 @@ pub enum Word {
     Refused(u8),
 }
 
-// Word k of the n bytes from `start` on.
-fn word_in(message: &[u8], start: Offset, n: usize, layout: Layout, k: u64) -> Word
-    requires { (start.0 + n ≤ length message.now) × (0 < layout.width) × (8 * layout.width < 64) }
-    ensures answer { word_as result ≡ word_in (format_of layout) (span_of message.now start.0 n) k }
+// The bytes of a row's span.
+fn span(message: &[u8], row: RowWords) -> &[u8]
+    requires { row.first + row.second ≤ length message.now }
+    ensures { result.now ≡ span_of message.now row.first row.second }
+{
+    let start = row.first as usize;
+    &message[start..start + row.second as usize]
+}
+
+// Word k of a block.
+fn word_in(block: &[u8], layout: Layout, k: u64) -> Word
+    ensures answer { word_as result ≡ word_in (format_of layout) block.now k }
     ensures never_0 { result ≡ Word.Refused 0 → ⊥ }
 {
     let width = layout.width;
     let order = layout.order;
-    if n % width != 0 {
+    if block.len() % width != 0 {
         return Word::Refused(refusal::UNEVEN);
     }
-    if ((n / width) as u64) <= k {
+    if ((block.len() / width) as u64) <= k {
         return Word::Refused(refusal::NO_WORD);
     }
-    let at = start.0 + (k as usize) * width;
-    let bits = join::join(message, Offset(at), width, order);
-    Word::Value(join::number(bits, width, layout.signed))
+    let at = (k as usize) * width;
+    let bits = join::join(&block[at..at + width], order);
+    Word::Value(join::number(bits, layout))
 }
 
-// Word k of a binary under a tag.
-fn word_named(message: &[u8], tag: RowWords, block: RowWords, k: u64) -> Word
-    requires { (tag.first + tag.second ≤ length message.now) × (block.first + block.second ≤ length message.now) }
-    ensures answer { word_as result ≡ word_named (format_in formats (span_of message.now tag.first tag.second)) (binary (span_of message.now block.first block.second)) k }
+// Word k of a binary under a tag, by the tag's name and the binary's bytes.
+fn word_named(name: &[u8], block: &[u8], k: u64) -> Word
+    ensures answer { word_as result ≡ word_named (format_in formats name.now) (binary block.now) k }
     ensures never_0 { result ≡ Word.Refused 0 → ⊥ }
 {
-    let found = formats::find(message, Offset(tag.first as usize), tag.second as usize);
-    let Found::Known(layout) = found else {
+    let Some(layout) = formats::find(name) else {
         return Word::Refused(refusal::NO_BLOCK);
     };
-    word_in(
-        message,
-        Offset(block.first as usize),
-        block.second as usize,
-        layout,
-        k,
-    )
+    word_in(block, layout, k)
 }
 
 // Word k of a row and the row that it wraps, which have to be a tag and a binary.
@@ -74,7 +75,7 @@ fn word_of_rows(message: &[u8], tag: RowWords, block: RowWords, k: u64) -> Word
     if block.kind != kind::BINARY {
         return Word::Refused(refusal::NO_BLOCK);
     }
-    word_named(message, tag, block, k)
+    word_named(span(message, tag), span(message, block), k)
 }
 
 // Reads word k, from 0, of the sensor block at a row, which stands in the root's place. Nothing is lent for writing. No refusal has the number 0, which is that

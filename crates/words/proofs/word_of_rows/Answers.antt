@@ -1,18 +1,16 @@
 -- `words::word_of_rows` meets its contract.
+use mathlib.Core.Path.{◌∙◌}
+use Rattle.words.specs.Answers.{word_as}
 use Rattle.words.proofs.Rows as laws
 use Rattle.words.proofs.word_of_rows.Goals as goal
 
-pub returns-then-tag-ne-TAG : goal.returns-then-tag-ne-TAG
-returns-then-tag-ne-TAG c =
-    let all = laws.no_tag _ _ _ _ c.if-tag-ne-TAG.true in
-    record { answer = all.0; never_0 = all.1 }
+pub returns-then-tag-ne-TAG-clause-answer : goal.returns-then-tag-ne-TAG-clause-answer
+unfolding word_as
+returns-then-tag-ne-TAG-clause-answer c = laws.no_tag _ _ _ _ c.if-tag-ne-TAG.true
 
-pub returns-then-block-ne-BINARY : goal.returns-then-block-ne-BINARY
-returns-then-block-ne-BINARY c =
-    let all = laws.no_binary _ _ _ _ c.if-tag-ne-TAG.false c.if-block-ne-BINARY.true in
-    record { answer = all.0; never_0 = all.1 }
+pub returns-then-block-ne-BINARY-clause-answer : goal.returns-then-block-ne-BINARY-clause-answer
+unfolding word_as
+returns-then-block-ne-BINARY-clause-answer c = laws.no_binary _ _ _ _ c.if-tag-ne-TAG.false c.if-block-ne-BINARY.true
 
-pub returns : goal.returns
-returns c =
-    let all = laws.word_of _ _ _ _ c.if-tag-ne-TAG.false c.if-block-ne-BINARY.false _ (c.word_named.ensures.answer, c.word_named.ensures.never_0) in
-    record { answer = all.0; never_0 = all.1 }
+pub returns-clause-answer : goal.returns-clause-answer
+returns-clause-answer c = rw (c.span.ensures, c.span-2.ensures) at c.word_named.ensures.answer ∙ laws.word_of _ _ _ _ c.if-tag-ne-TAG.false c.if-block-ne-BINARY.false
