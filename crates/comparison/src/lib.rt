@@ -8,19 +8,12 @@ ghost use Rattle.format.specs.Sound.{sound_table};
 ghost use Rattle.comparison.specs.Answers.{compared_as};
 ghost use Rattle.comparison.specs.Classes.{side, term_in, same_term};
 
-use format::{Row, bound, refusal};
+use format::refusal::Refusal;
+use format::{Row, bound};
 
 mod classes;
 mod same;
 mod search;
-
-// The plain texts are the same bytes, or they differ; or a refusal's number.
-#[derive(Clone, Copy)]
-pub enum Compared {
-    Equal,
-    Different,
-    Refused(u8),
-}
 
 // The number of a row over both sides: the first side's rows come first, the second side's after them.
 #[derive(Clone, Copy)]
@@ -64,19 +57,18 @@ fn compare_tables(
     used_b: u32,
     root_b: Row,
     scratch: &mut [u32],
-) -> Compared
+) -> Result<bool, Refusal>
     requires { (length message_a.now ≤ message_bound) × (length message_b.now ≤ message_bound) × (used_a + used_b ≤ length scratch.old) }
-    ensures answer { compared_as result (zeroed scratch.old) ≡ compare_answer message_a.now rows_a.now used_a root_a.0 message_b.now rows_b.now used_b root_b.0 scratch.old }
-    ensures never_0 { result ≡ Compared.Refused 0 → ⊥ }
+    ensures { compared_as result (zeroed scratch.old) ≡ compare_answer message_a.now rows_a.now used_a root_a.0 message_b.now rows_b.now used_b root_b.0 scratch.old }
 {
     if !sound::sound_table(message_a, rows_a, used_a, root_a) {
-        return Compared::Refused(refusal::UNSOUND);
+        return Err(Refusal::Unsound);
     }
     if !sound::sound_table(message_b, rows_b, used_b, root_b) {
-        return Compared::Refused(refusal::UNSOUND);
+        return Err(Refusal::Unsound);
     }
     let n = rows_of_both(used_a, used_b);
-    if same_roots(
+    let same = same_roots(
         message_a,
         rows_a,
         used_a,
@@ -86,14 +78,12 @@ fn compare_tables(
         used_b,
         root_b,
         &mut scratch[..n],
-    ) {
-        return Compared::Equal;
-    }
-    Compared::Different
+    );
+    Ok(same)
 }
 
 // Compares the plain texts of row `root_a` of one table and row `root_b` of another, which may be the same table. The scratch is working memory, a word
-// for each row used on both sides; after all but 1 and 2 it is zero. No refusal has the number 0, which is that of an answer.
+// for each row used on both sides; after all but 1 and 2 it is zero.
 pub fn compare(
     message_a: &[u8],
     rows_a: &[u32],
@@ -104,18 +94,17 @@ pub fn compare(
     used_b: u32,
     root_b: Row,
     scratch: &mut [u32],
-) -> Compared
-    ensures answer { compared_as result scratch.new ≡ compare_answer message_a.now rows_a.now used_a root_a.0 message_b.now rows_b.now used_b root_b.0 scratch.old }
-    ensures never_0 { result ≡ Compared.Refused 0 → ⊥ }
+) -> Result<bool, Refusal>
+    ensures { compared_as result scratch.new ≡ compare_answer message_a.now rows_a.now used_a root_a.0 message_b.now rows_b.now used_b root_b.0 scratch.old }
 {
     if bound::MESSAGE_BYTES < message_a.len() {
-        return Compared::Refused(refusal::OVER_BOUND);
+        return Err(Refusal::OverBound);
     }
     if bound::MESSAGE_BYTES < message_b.len() {
-        return Compared::Refused(refusal::OVER_BOUND);
+        return Err(Refusal::OverBound);
     }
     if scratch.len() < rows_of_both(used_a, used_b) {
-        return Compared::Refused(refusal::SHORT_TABLE);
+        return Err(Refusal::ShortTable);
     }
     let answer = compare_tables(
         message_a, rows_a, used_a, root_a, message_b, rows_b, used_b, root_b, scratch,

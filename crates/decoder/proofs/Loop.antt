@@ -17,7 +17,9 @@ use Rattle.format.proofs.Unchanged.{same-limits}
 use Rattle.table.specs.Words.{cleared_from}
 use Rattle.table.proofs.Cleared.{cleared-rows}
 use Rattle.lexer.proofs.Bytes.{byte_at}
-use Rattle.decoder.specs.declared.Decoded.TheVariants as Decoded
+use Rattle.std.specs.Prelude.{Ok, Err}
+use Rattle.format.specs.declared.refusal.Refusal.{Refusal}
+use Rattle.format.specs.declared.refusal.Refusal.TheVariants as Why
 use Rattle.machine.specs.declared.state.State.{State}
 use Rattle.machine.specs.declared.state.Answer.TheVariants.{More, Done, Refused}
 use Rattle.machine.specs.Held.{machine_of, turn, taken}
@@ -51,7 +53,7 @@ byte_here message i h = rw add-one at (byte_at message i h)
 module _ (message : List ℕ) (t₀ t : Tables) (s : State) (going : Going message t₀ t s) where
   -- the slice's end
   pub over : length message ≤ s.at.0 → (words : List ℕ)
-      → left_as (Decoded.Refused 3 (record { 0 = length message })) words ≡ left_by t₀.rows (M.run row_values (limits_of t₀) message)
+      → left_as (Err (record { refusal = Why.Cut; place = record { 0 = length message } })) words ≡ left_by t₀.rows (M.run row_values (limits_of t₀) message)
   unfolding left_as left_by run_from
   over h words =
       let last : s.at.0 ≡ length message = omega (arith, going.before.inside) in
@@ -71,14 +73,14 @@ module _ (message : List ℕ) (t₀ t t' : Tables) (kept : SameLengths t t') (s 
       (record { before = a.before'; same = chain going.same kept; whole = rw (same-limits t₀ t going.same) (sym a.same-run ∙ here-whole) }, a.later)
 
   pub done : (root : RowNumber) → turn (Done root) t' ≡ taken t s rest (lex b rest)
-      → left_as (Decoded.Accepted (s.at.0 + 1) root s.next.0) t'.rows ≡ left_by t₀.rows (M.run row_values (limits_of t₀) message)
+      → left_as (Ok (record { consumed = s.at.0 + 1; root = root; used = s.next.0 })) t'.rows ≡ left_by t₀.rows (M.run row_values (limits_of t₀) message)
   unfolding left_as left_by machine_of rows_in
   done root e =
       let a = accepts message t t' kept s b going.before here root (rw add-one at e) in
       let left : cleared_from (s.next.0 * row_words) t'.rows ≡ rows_in t₀.rows (machine_of t s).memory = rw (a.1, cleared-rows t.rows s.next.0 going.before.ready.used, going.same.rows) refl in
       rw (same-limits t₀ t going.same, ← here-whole, a.0, left, add-one) refl
 
-  pub stopped : (n : ℕ) (p : Offset) → turn (Refused n p) t' ≡ taken t s rest (lex b rest) → (words : List ℕ)
-      → left_as (Decoded.Refused n p) words ≡ left_by t₀.rows (M.run row_values (limits_of t₀) message)
+  pub stopped : (n : Refusal) (p : Offset) → turn (Refused n p) t' ≡ taken t s rest (lex b rest) → (words : List ℕ)
+      → left_as (Err (record { refusal = n; place = p })) words ≡ left_by t₀.rows (M.run row_values (limits_of t₀) message)
   unfolding left_as left_by
   stopped n p e words = rw (same-limits t₀ t going.same, ← here-whole, refuses message t t' kept s b going.before here n p (rw add-one at e)) refl

@@ -16,7 +16,9 @@ use Rattle.format.specs.Machine as M
 use Rattle.format.specs.Machine.{Machine, Limits, Step, Outcome, Result, refuse, go, finish, refused, accepted, bounded, step, follow, run_from}
 use Rattle.format.specs.Rows.{row_values, row_room, rows_of, words_of}
 use Rattle.format.specs.Answer.{Tables, zeroed, limits_of, rows_in, SameLengths}
+use Rattle.format.specs.Number.{number_of}
 use Rattle.format.specs.declared.Offset.{Offset}
+use Rattle.format.specs.declared.refusal.Refusal.{Refusal}
 use Rattle.format.specs.declared.Row.{Row as RowNumber}
 use Rattle.format.proofs.Items.{lex-ok}
 use Rattle.format.proofs.Moves as Mv
@@ -88,10 +90,10 @@ goes_on t s t' s' (refuse n p) e = let z : ◌≡◌ {A = ℕ} 0 1 = cc in absur
 goes_on t s t' s' (finish v) e = let z : ◌≡◌ {A = ℕ} 0 1 = cc in absurd (omega arith)
 goes_on t s t' s' (go k w m) e = record { skip = k; made = w; machine = m; is = refl; at = cc; used = cc; stack = cc; marks = cc; registers = cc; rows = cc }
 
-stops_at : (t : Tables) (s : State) (t' : Tables) (n : ℕ) (p : Offset) (x : Step row_values) → turn (Refused n p) t' ≡ after t s x → x ≡ refuse n p.0
+stops_at : (t : Tables) (s : State) (t' : Tables) (n : Refusal) (p : Offset) (x : Step row_values) → turn (Refused n p) t' ≡ after t s x → x ≡ refuse (number_of n) p.0
 unfolding turn after
 stops_at t s t' n p (refuse n' p') e =
-    let number : n ≡ n' = cc in
+    let number : number_of n ≡ n' = cc in
     let place : p.0 ≡ p' = cc in
     rw (number, place) refl
 stops_at t s t' n p (finish v) e = let z : ◌≡◌ {A = ℕ} 0 1 = cc in absurd (omega arith)
@@ -135,7 +137,7 @@ module _ (message : List ℕ) (t t' : Tables) (same : SameLengths t t') (s : Sta
   abbrev pub ran : Outcome (Result row_values)
   ran = run_from row_values limits (drop s.at.0 message) 0 s.at.0 s.next.0 (machine_of t s)
 
-  pub refuses : (n : ℕ) (p : Offset) → turn (Refused n p) t' ≡ taken t s rest (lex b rest) → ran ≡ refused n p.0
+  pub refuses : (n : Refusal) (p : Offset) → turn (Refused n p) t' ≡ taken t s rest (lex b rest) → ran ≡ refused (number_of n) p.0
   unfolding taken limited run_from follow
   refuses n p e = rw (here, stops_at t s t' n p (bounded row_values limits s.at.0 s.next.0 stepped) e) refl
 

@@ -5,16 +5,18 @@ ghost use Rattle.std.specs.Prelude.{◌≡◌};
 ghost use Rattle.format.specs.Answer.{decode_answer, tables};
 ghost use Rattle.decoder.specs.Answers.{decoded_as};
 
-use format::{Offset, Row, bound, refusal};
+use format::refusal::{Refusal, Refused};
+use format::{Offset, Row, bound};
 
 mod run;
 mod settle;
 
-// Bytes consumed, root row and rows used; or a refusal's number and place.
-#[derive(Clone, Copy)]
-pub enum Decoded {
-    Accepted(usize, Row, u32),
-    Refused(u8, Offset),
+// Of an accepted message: bytes consumed, root row and rows used.
+#[derive(Clone, Copy, Debug, PartialEq, Eq)]
+pub struct Accepted {
+    pub consumed: usize,
+    pub root: Row,
+    pub used: u32,
 }
 
 // Decodes a message into `rows`. The other tables are working memory: the stack, the marks (01's noted depths), the registers.
@@ -24,14 +26,20 @@ pub fn decode(
     stack: &mut [u32],
     marks: &mut [u32],
     registers: &mut [u32],
-) -> Decoded
+) -> Result<Accepted, Refused>
     ensures { decoded_as result (tables rows.new stack.new marks.new registers.new) ≡ decode_answer message.now (tables rows.old stack.old marks.old registers.old) }
 {
     if bound::MESSAGE_BYTES < message.len() {
-        return Decoded::Refused(refusal::OVER_BOUND, Offset(0));
+        return Err(Refused {
+            refusal: Refusal::OverBound,
+            place: Offset(0),
+        });
     }
     if registers.len() < bound::REGISTER_WORDS {
-        return Decoded::Refused(refusal::SHORT_TABLE, Offset(0));
+        return Err(Refused {
+            refusal: Refusal::ShortTable,
+            place: Offset(0),
+        });
     }
     table::clear(registers);
     let answer = run::run(message, rows, stack, marks, registers);

@@ -6,8 +6,9 @@ ghost use Rattle.format.specs.Machine as M;
 ghost use Rattle.format.specs.Rows.{row_values};
 ghost use Rattle.decoder.specs.Run.{left_as, left_by};
 
-use crate::Decoded;
-use format::{Depth, Offset, Row, class, refusal};
+use crate::Accepted;
+use format::refusal::{Refusal, Refused};
+use format::{Depth, Offset, Row, class};
 use machine::state::{Answer, State};
 
 // Items from left to right until the message ends or is refused.
@@ -17,7 +18,7 @@ pub(crate) fn run(
     stack: &mut [u32],
     marks: &mut [u32],
     registers: &mut [u32],
-) -> Decoded
+) -> Result<Accepted, Refused>
     requires bounds { (length message.now ≤ message_bound) × (register_words ≤ length registers.old) }
     requires registers_empty { registers.old ≡ zeroed registers.old }
     ensures { left_as result rows.new ≡ left_by rows.old (M.run row_values (limits_of (tables rows.old stack.old marks.old registers.old)) message.now) }
@@ -33,7 +34,10 @@ pub(crate) fn run(
         let i = s.at.0;
         let next = s.next;
         if message.len() <= i {
-            return Decoded::Refused(refusal::CUT, Offset(message.len()));
+            return Err(Refused {
+                refusal: Refusal::Cut,
+                place: Offset(message.len()),
+            });
         }
         let b = message[i];
         let a = step::step(&classes, message, rows, stack, marks, registers, s, b);
@@ -42,10 +46,15 @@ pub(crate) fn run(
                 s = after;
             }
             Answer::Done(root) => {
-                return Decoded::Accepted(i + 1, root, next.0);
+                let accepted = Accepted {
+                    consumed: i + 1,
+                    root,
+                    used: next.0,
+                };
+                return Ok(accepted);
             }
-            Answer::Refused(number, place) => {
-                return Decoded::Refused(number, place);
+            Answer::Refused(refusal, place) => {
+                return Err(Refused { refusal, place });
             }
         }
     }

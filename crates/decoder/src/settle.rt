@@ -3,8 +3,9 @@ ghost use Rattle.std.specs.Prelude.{◌≡◌};
 ghost use Rattle.format.specs.Answer.{tables};
 ghost use Rattle.decoder.specs.Run.{settled};
 
-use crate::Decoded;
+use crate::Accepted;
 use format::ROW_WORDS;
+use format::refusal::Refused;
 
 // Clears the working memory, and the row table past the rows used: on a refusal, all of it.
 pub(crate) fn settle(
@@ -12,7 +13,7 @@ pub(crate) fn settle(
     stack: &mut [u32],
     marks: &mut [u32],
     registers: &mut [u32],
-    answer: Decoded,
+    answer: Result<Accepted, Refused>,
 )
     ensures { tables rows.new stack.new marks.new registers.new ≡ settled answer (tables rows.old stack.old marks.old registers.old) }
 {
@@ -20,11 +21,11 @@ pub(crate) fn settle(
     table::clear(marks);
     table::clear(registers);
     match answer {
-        Decoded::Refused(_, _) => {
+        Err(_) => {
             table::clear(rows);
         }
-        Decoded::Accepted(_, _, used) => {
-            table::clear_from(rows, (used as usize) * ROW_WORDS);
+        Ok(accepted) => {
+            table::clear_from(rows, (accepted.used as usize) * ROW_WORDS);
         }
     }
 }

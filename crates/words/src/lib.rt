@@ -11,19 +11,13 @@ ghost use Rattle.words.specs.Answers.{word_as};
 ghost use Rattle.words.specs.Known.{format_of, word_of_rows};
 
 use crate::layout::Layout;
-use format::{Row, bound, kind, refusal};
+use format::refusal::Refusal;
+use format::{Row, bound, kind};
 use table::RowWords;
 
 mod formats;
 mod join;
 mod layout;
-
-// A word, or a refusal's number.
-#[derive(Clone, Copy)]
-pub enum Word {
-    Value(i64),
-    Refused(u8),
-}
 
 // The bytes of a row's span.
 fn span(message: &[u8], row: RowWords) -> &[u8]
@@ -35,60 +29,55 @@ fn span(message: &[u8], row: RowWords) -> &[u8]
 }
 
 // Word k of a block.
-fn word_in(block: &[u8], layout: Layout, k: u64) -> Word
-    ensures answer { word_as result ≡ word_in (format_of layout) block.now k }
-    ensures never_0 { result ≡ Word.Refused 0 → ⊥ }
+fn word_in(block: &[u8], layout: Layout, k: u64) -> Result<i64, Refusal>
+    ensures { word_as result ≡ word_in (format_of layout) block.now k }
 {
     let width = layout.width;
     let order = layout.order;
     if block.len() % width != 0 {
-        return Word::Refused(refusal::UNEVEN);
+        return Err(Refusal::Uneven);
     }
     if ((block.len() / width) as u64) <= k {
-        return Word::Refused(refusal::NO_WORD);
+        return Err(Refusal::NoWord);
     }
     let at = (k as usize) * width;
     let bits = join::join(&block[at..at + width], order);
-    Word::Value(join::number(bits, layout))
+    Ok(join::number(bits, layout))
 }
 
 // Word k of a binary under a tag, by the tag's name and the binary's bytes.
-fn word_named(name: &[u8], block: &[u8], k: u64) -> Word
-    ensures answer { word_as result ≡ word_named (format_in formats name.now) (binary block.now) k }
-    ensures never_0 { result ≡ Word.Refused 0 → ⊥ }
+fn word_named(name: &[u8], block: &[u8], k: u64) -> Result<i64, Refusal>
+    ensures { word_as result ≡ word_named (format_in formats name.now) (binary block.now) k }
 {
     let Some(layout) = formats::find(name) else {
-        return Word::Refused(refusal::NO_BLOCK);
+        return Err(Refusal::NoBlock);
     };
     word_in(block, layout, k)
 }
 
 // Word k of a row and the row that it wraps, which have to be a tag and a binary.
-fn word_of_rows(message: &[u8], tag: RowWords, block: RowWords, k: u64) -> Word
+fn word_of_rows(message: &[u8], tag: RowWords, block: RowWords, k: u64) -> Result<i64, Refusal>
     requires { tag.kind ≡ tag_kind → (tag.first + tag.second ≤ length message.now) × (block.kind ≡ binary_kind → block.first + block.second ≤ length message.now) }
-    ensures answer { word_as result ≡ word_of_rows message.now (row_of tag) (row_of block) k }
-    ensures never_0 { result ≡ Word.Refused 0 → ⊥ }
+    ensures { word_as result ≡ word_of_rows message.now (row_of tag) (row_of block) k }
 {
     if tag.kind != kind::TAG {
-        return Word::Refused(refusal::NO_BLOCK);
+        return Err(Refusal::NoBlock);
     }
     if block.kind != kind::BINARY {
-        return Word::Refused(refusal::NO_BLOCK);
+        return Err(Refusal::NoBlock);
     }
     word_named(span(message, tag), span(message, block), k)
 }
 
-// Reads word k, from 0, of the sensor block at a row, which stands in the root's place. Nothing is lent for writing. No refusal has the number 0, which is that
-// of an answer.
-pub fn read_word(message: &[u8], rows: &[u32], used: u32, row: Row, k: u64) -> Word
-    ensures answer { word_as result ≡ word_answer message.now rows.now used row.0 k }
-    ensures never_0 { result ≡ Word.Refused 0 → ⊥ }
+// Reads word k, from 0, of the sensor block at a row, which stands in the root's place. Nothing is lent for writing.
+pub fn read_word(message: &[u8], rows: &[u32], used: u32, row: Row, k: u64) -> Result<i64, Refusal>
+    ensures { word_as result ≡ word_answer message.now rows.now used row.0 k }
 {
     if bound::MESSAGE_BYTES < message.len() {
-        return Word::Refused(refusal::OVER_BOUND);
+        return Err(Refusal::OverBound);
     }
     if !sound::sound_table(message, rows, used, row) {
-        return Word::Refused(refusal::UNSOUND);
+        return Err(Refusal::Unsound);
     }
     let tag = table::load_row(rows, row);
     let block = table::load_row(rows, Row(tag.third));

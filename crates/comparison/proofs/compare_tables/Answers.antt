@@ -2,27 +2,25 @@
 use mathlib.Core.Path.{sym, subst, ◌∙◌}
 use lib.Dec.{T}
 use lib.Seq.{length-take-le}
-use Rattle.comparison.proofs.Answered.{unsound-first, unsound-second, equal, different}
+use Rattle.comparison.proofs.Answered.{unsound-first, unsound-second, compared}
 use Rattle.comparison.proofs.compare_tables.Goals as goal
 
 pub returns-then-not-sound_table : goal.returns-then-not-sound_table
 returns-then-not-sound_table c =
     let p = c.requires in
-    let all = unsound-first _ _ _ _ _ _ _ _ _ p.0 p.1 p.2 (sym c.sound_table.ensures ∙ c.if-not-sound_table.true) in
-    record { answer = all.0; never_0 = all.1 }
+    unsound-first _ _ _ _ _ _ _ _ _ p.0 p.1 p.2 (sym c.sound_table.ensures ∙ c.if-not-sound_table.true)
 
 pub returns-then-not-sound_table-2 : goal.returns-then-not-sound_table-2
 returns-then-not-sound_table-2 c =
     let p = c.requires in
     let sound_a = sym c.sound_table.ensures ∙ c.if-not-sound_table.false in
-    let all = unsound-second _ _ _ _ _ _ _ _ _ p.0 p.1 p.2 sound_a (sym c.sound_table-2.ensures ∙ c.if-not-sound_table-2.true) in
-    record { answer = all.0; never_0 = all.1 }
+    unsound-second _ _ _ _ _ _ _ _ _ p.0 p.1 p.2 sound_a (sym c.sound_table-2.ensures ∙ c.if-not-sound_table-2.true)
 
 pub slice_bounds-same_roots-end-2 : goal.slice_bounds-same_roots-end-2
 slice_bounds-same_roots-end-2 c = sym (length-take-le _ _ (rw c.rows_of_both-n.ensures c.requires.2))
 
-pub same_roots-requires : goal.same_roots-requires
-same_roots-requires c =
+pub same_roots-same-requires : goal.same_roots-same-requires
+same_roots-same-requires c =
     let p = c.requires in
     let sound_a = sym c.sound_table.ensures ∙ c.if-not-sound_table.false in
     let sound_b = sym c.sound_table-2.ensures ∙ c.if-not-sound_table-2.false in
@@ -31,18 +29,9 @@ same_roots-requires c =
       sound = (subst T (sym sound_a) tt, subst T (sym sound_b) tt);
     }
 
-pub returns-then-same_roots : goal.returns-then-same_roots
-returns-then-same_roots c =
-    let p = c.requires in
-    let sound_a = sym c.sound_table.ensures ∙ c.if-not-sound_table.false in
-    let sound_b = sym c.sound_table-2.ensures ∙ c.if-not-sound_table-2.false in
-    let all = equal _ _ _ _ _ _ _ _ _ p.0 p.1 p.2 sound_a sound_b (sym c.same_roots.ensures ∙ c.if-same_roots.true) in
-    record { answer = all.0; never_0 = all.1 }
-
 pub returns : goal.returns
 returns c =
     let p = c.requires in
     let sound_a = sym c.sound_table.ensures ∙ c.if-not-sound_table.false in
     let sound_b = sym c.sound_table-2.ensures ∙ c.if-not-sound_table-2.false in
-    let all = different _ _ _ _ _ _ _ _ _ p.0 p.1 p.2 sound_a sound_b (sym c.same_roots.ensures ∙ c.if-same_roots.false) in
-    record { answer = all.0; never_0 = all.1 }
+    compared _ _ _ _ _ _ _ _ _ p.0 p.1 p.2 sound_a sound_b _ c.same_roots-same.ensures

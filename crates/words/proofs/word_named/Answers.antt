@@ -4,9 +4,9 @@ use Rattle.words.specs.Answers.{word_as}
 use Rattle.words.proofs.Tags as laws
 use Rattle.words.proofs.word_named.Goals as goal
 
-pub returns-in_default-clause-answer : goal.returns-in_default-clause-answer
+pub returns-in_default : goal.returns-in_default
 unfolding word_as
-returns-in_default-clause-answer c = laws.unknown _ _ _ c.in_default.ensures
+returns-in_default c = laws.unknown _ _ _ c.in_default.ensures
 
-pub returns-clause-answer : goal.returns-clause-answer
-returns-clause-answer c = c.word_in.ensures.answer ∙ laws.known _ _ _ _ c.in-Some.ensures
+pub returns : goal.returns
+returns c = c.word_in.ensures ∙ laws.known _ _ _ _ c.in-Some.ensures
