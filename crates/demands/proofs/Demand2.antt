@@ -10,7 +10,10 @@ use lib.Seq.{take-append_seam}
 use lib.Dec.{eqb, ltb, T}
 use borrow.Author.Tests.{eq-eqb, ne_eqb, eqb-false}
 use Rattle.format.specs.Bound.{register_words}
-use Rattle.format.specs.Machine.{Limits, Outcome, Result, refused, accepted, run}
+use Rattle.std.specs.Prelude.{Result, Ok, Err}
+use Rattle.format.specs.Machine as M
+use Rattle.format.specs.Machine.{Limits, Outcome, refused, accepted, run}
+use Rattle.format.specs.Number.{number_of}
 use Rattle.format.specs.Meaning.{term_values, message_term}
 use Rattle.format.specs.Rows.{row_values, rows_of, term_at}
 use Rattle.format.specs.Sound.{sound_table, sound_term}
@@ -18,7 +21,6 @@ use Rattle.format.specs.Term.{Term}
 use Rattle.format.specs.Text.{plain}
 use Rattle.format.specs.Answer as A
 use Rattle.format.specs.Answer.{Tables, over_bound, limits_of, rows_in, cleared, decode_refusal, decode_result, decode_answer, write_refusal, write_answer}
-use Rattle.format.specs.declared.Offset.{Offset}
 use Rattle.format.specs.declared.Row.{Row}
 use Rattle.format.proofs.Decoded.{rows_in_lem, accepts, decoded-sound, decoded-term}
 use Rattle.format.proofs.ReadBack as B
@@ -34,16 +36,14 @@ use Rattle.format.proofs.Suffix.{NotCut, appended}
 use Rattle.format.proofs.Unchanged.{unchanged}
 use Rattle.format.proofs.Tests.{either}
 use Rattle.format.proofs.Written.{Writes, early, late, whole, writes}
-use Rattle.decoder.specs.declared.Decoded.{Decoded}
-use Rattle.decoder.specs.declared.Decoded.TheVariants.{Accepted, Refused}
+use Rattle.format.specs.declared.refusal.Refusal.{Refusal}
+use Rattle.format.specs.declared.refusal.Refused.{Refused}
 use Rattle.decoder.specs.Answers.{decoded_as}
+use Rattle.decoder.specs.declared.Accepted.{Accepted}
 use Rattle.text.specs.Answers.{written_as}
-use Rattle.text.specs.declared.Written.{Written}
-use Rattle.text.specs.declared.Written.TheVariants as W
-use Rattle.text.specs.declared.Written.TheVariants.{Bytes}
 use Rattle.demands.specs.Demand2.{in_terms, machine_says, DecodeMeans, NothingChanges, is_limit, ReadsBack, same, limit, WrittenReadsBack, not_written, reading, read_as, trip_as, trip_says, buffers, trip_leaves}
-use Rattle.demands.specs.declared.RoundTrip.{RoundTrip}
-use Rattle.demands.specs.declared.RoundTrip.TheVariants.{NotWritten, NotRead}
+use Rattle.demands.specs.declared.TripRefused.{TripRefused}
+use Rattle.demands.specs.declared.TripRefused.TheVariants.{NotWritten, NotRead}
 
 -- an accepted message has used a row
 pub some-row : (message : List ℕ) (t : Tables) → (decode_answer message t).number ≡ 0 → 1 ≤ (decode_answer message t).used
@@ -53,35 +53,35 @@ some-row message t z =
     rw a.answer (omega (arith, (accepted-rows message (limits_of t) a.consumed a.result a.ran).root))
 
 -- a refusal with its number, whatever the tables
-refused_with : (message : List ℕ) (r : Decoded) (u t : Tables) (n p : ℕ) → 1 ≤ n → decoded_as r u ≡ decode_refusal n p t → in_terms message r u ≡ refused n p
+refused_with : (message : List ℕ) (r : Result Accepted Refused) (u t : Tables) (n p : ℕ) → 1 ≤ n → decoded_as r u ≡ decode_refusal n p t → in_terms message r u ≡ refused n p
 unfolding decoded_as decode_refusal in_terms
-refused_with message (Accepted consumed root used) u t n p h e = absurd (omega (arith, ap (λ (d : A.Decoded). d.number) e))
-refused_with message (Refused number place) u t n p h e =
-    let number' : number ≡ n = ap (λ (d : A.Decoded). d.number) e in
-    let place' : place.0 ≡ p = ap (λ (d : A.Decoded). d.place) e in
+refused_with message (Ok a) u t n p h e = absurd (omega (arith, ap (λ (d : A.Decoded). d.number) e))
+refused_with message (Err x) u t n p h e =
+    let number' : number_of x.refusal ≡ n = ap (λ (d : A.Decoded). d.number) e in
+    let place' : x.place.0 ≡ p = ap (λ (d : A.Decoded). d.place) e in
     rw (number', place') refl
 
 -- an accepted message's answer in terms
-accepted_with : (message : List ℕ) (t u : Tables) (k : ℕ) (res : Result row_values) → R.Accepted message k res → (r : Decoded) → decoded_as r u ≡ decode_result t (accepted k res)
+accepted_with : (message : List ℕ) (t u : Tables) (k : ℕ) (res : M.Result row_values) → R.Accepted message k res → (r : Result Accepted Refused) → decoded_as r u ≡ decode_result t (accepted k res)
     → in_terms message r u ≡ S.in_terms message (accepted k res)
 unfolding decoded_as decode_refusal decode_result cleared in_terms S.in_terms
-accepted_with message t u k res a (Refused number place) e = absurd (omega (arith, a.root, ap (λ (d : A.Decoded). d.used) e))
-accepted_with message t u k res a (Accepted consumed root used) e =
-    let bytes : consumed ≡ k = ap (λ (d : A.Decoded). d.place) e in
-    let root' : root.0 ≡ res.root = ap (λ (d : A.Decoded). d.root) e in
-    let used' : used ≡ res.used = ap (λ (d : A.Decoded). d.used) e in
+accepted_with message t u k res a (Err x) e = absurd (omega (arith, a.root, ap (λ (d : A.Decoded). d.used) e))
+accepted_with message t u k res a (Ok b) e =
+    let bytes : b.consumed ≡ k = ap (λ (d : A.Decoded). d.place) e in
+    let root' : b.root.0 ≡ res.root = ap (λ (d : A.Decoded). d.root) e in
+    let used' : b.used ≡ res.used = ap (λ (d : A.Decoded). d.used) e in
     let words : u.rows ≡ rows_in t.rows res.memory = ap (λ (d : A.Decoded). d.tables.rows) e in
     let rows : rows_of res.used (rows_in t.rows res.memory) ≡ res.memory = rw (← a.count) (rows_in_lem t.rows res.memory) in
     rw (bytes, root', used', words, rows) refl
 
 -- the machine's answer in terms, whatever it is
-machine_with : (message : List ℕ) (t : Tables) (r : Decoded) (u : Tables) (o : Outcome (Result row_values)) → run row_values (limits_of t) message ≡ o
+machine_with : (message : List ℕ) (t : Tables) (r : Result Accepted Refused) (u : Tables) (o : Outcome (M.Result row_values)) → run row_values (limits_of t) message ≡ o
     → decoded_as r u ≡ decode_result t o → in_terms message r u ≡ S.in_terms message o
 unfolding decode_result S.in_terms
 machine_with message t r u (refused n p) q e = refused_with message r u (cleared t []) n p (omega (arith, machine-number row_values (limits_of t) message n p q)) e
 machine_with message t r u (accepted k res) q e = accepted_with message t u k res (accepted-rows message (limits_of t) k res q) r e
 
-machine_says_lem : (message : List ℕ) (t : Tables) (r : Decoded) (u : Tables) → decoded_as r u ≡ decode_answer message t → in_terms message r u ≡ machine_says message t
+machine_says_lem : (message : List ℕ) (t : Tables) (r : Result Accepted Refused) (u : Tables) → decoded_as r u ≡ decode_answer message t → in_terms message r u ≡ machine_says message t
 unfolding decode_answer machine_says
 machine_says_lem message t r u promise = by (over_bound message) (ltb (length t.registers) register_words) promise
   where
@@ -92,45 +92,47 @@ machine_says_lem message t r u promise = by (over_bound message) (ltb (length t.
     by false false e = machine_with message t r u (run row_values (limits_of t) message) refl e ∙ same_answer message (limits_of t)
 
 -- an accepted answer, in the paper's numbers
-module _ (message : List ℕ) (t u : Tables) (consumed : ℕ) (root : Row) (used : ℕ) (promise : decoded_as (Accepted consumed root used) u ≡ decode_answer message t) where
+module _ (message : List ℕ) (t u : Tables) (a : Accepted) (promise : decoded_as (Ok a) u ≡ decode_answer message t) where
   pub number : (decode_answer message t).number ≡ 0
   unfolding decoded_as
   number = ap (λ (d : A.Decoded). d.number) (sym promise)
 
-  its_term : message_term message ≡ some (term_at message (rows_of used u.rows) root.0)
+  its_term : message_term message ≡ some (term_at message (rows_of a.used u.rows) a.root.0)
   unfolding decoded_as
   its_term = rw (← promise) at (decoded-term message t number)
 
-  its_table : T (sound_table message u.rows used root.0)
+  its_table : T (sound_table message u.rows a.used a.root.0)
   unfolding decoded_as
   its_table = rw (← promise) at (decoded-sound message t number)
 
-pub demand2 : (message : List ℕ) (t : Tables) (r : Decoded) (u : Tables) → decoded_as r u ≡ decode_answer message t → DecodeMeans message t r u
+pub demand2 : (message : List ℕ) (t : Tables) (r : Result Accepted Refused) (u : Tables) → decoded_as r u ≡ decode_answer message t → DecodeMeans message t r u
 demand2 message t r u promise = record {
   machine = machine_says_lem message t r u promise;
-  term = λ consumed root used e. its_term message t u consumed root used (rw e at promise);
-  sound = λ consumed root used e. its_table message t u consumed root used (rw e at promise);
+  term = λ a e. its_term message t u a (rw e at promise);
+  sound = λ a e. its_table message t u a (rw e at promise);
 }
 
 pub nothing_changes : NothingChanges
 unfolding decoded_as decode_refusal
-nothing_changes x y z t t' s h r r' u u' first second root used e =
-    let first' : decoded_as (Accepted (length x) root used) u ≡ decode_answer (x ++ y) t = rw e at first in
-    let zero = number (x ++ y) t u (length x) root used first' in
-    let place : (decode_answer (x ++ y) t).place ≡ length x = ap (λ (d : A.Decoded). d.place) (sym first') in
+nothing_changes x y z t t' s h r r' u u' first second a all e =
+    let first' : decoded_as (Ok a) u ≡ decode_answer (x ++ y) t = rw e at first in
+    let zero = number (x ++ y) t u a first' in
+    let place : (decode_answer (x ++ y) t).place ≡ length x = ap (λ (d : A.Decoded). d.place) (sym first') ∙ all in
     let same = second ∙ unchanged x y z t t' s h zero place ∙ sym first' in
     by r' same (rw (← first') at (some-row (x ++ y) t zero))
   where
-    by : (q : Decoded) → decoded_as q u' ≡ decoded_as (Accepted (length x) root used) u → 1 ≤ used → (q ≡ r) × (u' ≡ u)
-    by (Refused n p) f l = absurd (omega (arith, ap (λ (d : A.Decoded). d.used) f))
-    by (Accepted consumed' root' used') f l =
-        let a : consumed' ≡ length x = ap (λ (d : A.Decoded). d.place) f in
-        let b : root'.0 ≡ root.0 = ap (λ (d : A.Decoded). d.root) f in
-        let c : used' ≡ used = ap (λ (d : A.Decoded). d.used) f in
-        let d : u' ≡ u = ap (λ (d : A.Decoded). d.tables) f in
-        (rw (e, a, c) (ap (λ (n : ℕ). Accepted (length x) (record { 0 = n }) used) b), d)
+    with_root : ℕ → Result Accepted Refused
+    with_root n = Ok (record { consumed = a.consumed; root = record { 0 = n }; used = a.used })
 
-not-cut : {term : Term} {o : Outcome (Result term_values)} → B.ReadsBack term o → NotCut o
+    by : (q : Result Accepted Refused) → decoded_as q u' ≡ decoded_as (Ok a) u → 1 ≤ a.used → (q ≡ r) × (u' ≡ u)
+    by (Err n) f l = absurd (omega (arith, ap (λ (d : A.Decoded). d.used) f))
+    by (Ok b) f l =
+        let bytes : b.consumed ≡ a.consumed = ap (λ (d : A.Decoded). d.place) f in
+        let root : b.root.0 ≡ a.root.0 = ap (λ (d : A.Decoded). d.root) f in
+        let used : b.used ≡ a.used = ap (λ (d : A.Decoded). d.used) f in
+        (rw (e, bytes, used) (ap with_root root), ap (λ (d : A.Decoded). d.tables) f)
+
+not-cut : {term : Term} {o : Outcome (M.Result term_values)} → B.ReadsBack term o → NotCut o
 not-cut (B.whole rows) = tt
 not-cut (B.no_room n p h) = λ e. omega arith
 
@@ -138,7 +140,7 @@ not-cut (B.no_room n p h) = λ e. omega arith
 text-read : (term : Term) → T (sound_term term) → (lim : Limits) (after : List ℕ) → B.ReadsBack term (run term_values lim (plain term ++ after))
 text-read term s lim after = by (run term_values lim (plain term)) (read-back_limits lim term s) refl
   where
-    by : (o : Outcome (Result term_values)) → B.ReadsBack term o → run term_values lim (plain term) ≡ o → B.ReadsBack term (run term_values lim (plain term ++ after))
+    by : (o : Outcome (M.Result term_values)) → B.ReadsBack term o → run term_values lim (plain term) ≡ o → B.ReadsBack term (run term_values lim (plain term ++ after))
     by o r e = rw (appended term_values lim (plain term) after o e (not-cut r)) r
 
 -- no room is a limit
@@ -150,27 +152,27 @@ room-limit n h =
 
 -- what the machine says of n bytes, and what may follow them, for `decode`'s answer
 module _ (term : Term) (n : ℕ) (bytes : List ℕ) (u : Tables) where
-  back-refused : (d : Decoded) (m q : ℕ) → in_terms bytes d u ≡ refused m q → T (is_limit m) → ReadsBack term n bytes u d
+  back-refused : (d : Result Accepted Refused) (m q : ℕ) → in_terms bytes d u ≡ refused m q → T (is_limit m) → ReadsBack term n bytes u d
   unfolding in_terms
-  back-refused (Refused number place) m q e h = let k : number ≡ m = cc in limit number place (rw k h)
-  back-refused (Accepted consumed root used) m q e h = let never : ◌≡◌ {A = ℕ} 0 1 = cc in absurd (omega arith)
+  back-refused (Err x) m q e h = let k : number_of x.refusal ≡ m = cc in limit x (rw k h)
+  back-refused (Ok a) m q e h = let never : ◌≡◌ {A = ℕ} 0 1 = cc in absurd (omega arith)
 
-  back-accepted : (d : Decoded) (rows : ℕ) → in_terms bytes d u ≡ accepted n (record { used = rows; root = term; memory = tt })
-      → ((consumed : ℕ) (root : Row) (used : ℕ) → d ≡ Accepted consumed root used → T (sound_table bytes u.rows used root.0)) → ReadsBack term n bytes u d
+  back-accepted : (d : Result Accepted Refused) (rows : ℕ) → in_terms bytes d u ≡ accepted n (record { used = rows; root = term; memory = tt })
+      → ((a : Accepted) → d ≡ Ok a → T (sound_table bytes u.rows a.used a.root.0)) → ReadsBack term n bytes u d
   unfolding in_terms
-  back-accepted (Refused number place) rows e s = let never : ◌≡◌ {A = ℕ} 0 1 = cc in absurd (omega arith)
-  back-accepted (Accepted consumed root used) rows e s =
-      let k : consumed ≡ n = cc in
-      let r : ◌≡◌ {A = Result term_values} (record { used = used; root = term_at bytes (rows_of used u.rows) root.0; memory = tt }) (record { used = rows; root = term; memory = tt }) = cc in
-      rw k (same root used (s consumed root used refl) (ap (λ (x : Result term_values). x.root) r))
+  back-accepted (Err x) rows e s = let never : ◌≡◌ {A = ℕ} 0 1 = cc in absurd (omega arith)
+  back-accepted (Ok a) rows e s =
+      let k : a.consumed ≡ n = cc in
+      let r : ◌≡◌ {A = M.Result term_values} (record { used = a.used; root = term_at bytes (rows_of a.used u.rows) a.root.0; memory = tt }) (record { used = rows; root = term; memory = tt }) = cc in
+      rw k (same a.root a.used (s a refl) (ap (λ (x : M.Result term_values). x.root) r))
 
 -- `decode` on a text with anything after it
-text-back : (term : Term) → T (sound_term term) → (after : List ℕ) (t : Tables) (d : Decoded) (u : Tables) → decoded_as d u ≡ decode_answer (plain term ++ after) t
+text-back : (term : Term) → T (sound_term term) → (after : List ℕ) (t : Tables) (d : Result Accepted Refused) (u : Tables) → decoded_as d u ≡ decode_answer (plain term ++ after) t
     → ReadsBack term (length (plain term)) (plain term ++ after) u d
 unfolding over_bound machine_says is_limit
 text-back term s after t d u promise = by (over_bound (plain term ++ after)) (ltb (length t.registers) register_words) (text-read term s (limits_of t) after) (machine_says_lem (plain term ++ after) t d u promise)
   where
-    by : (b c : Bool) {o : Outcome (Result term_values)} → B.ReadsBack term o → in_terms (plain term ++ after) d u ≡ cond b (refused 1 0) (cond c (refused 2 0) o)
+    by : (b c : Bool) {o : Outcome (M.Result term_values)} → B.ReadsBack term o → in_terms (plain term ++ after) d u ≡ cond b (refused 1 0) (cond c (refused 2 0) o)
         → ReadsBack term (length (plain term)) (plain term ++ after) u d
     by true c r e = back-refused term (length (plain term)) (plain term ++ after) u d 1 0 e tt
     by false true r e = back-refused term (length (plain term)) (plain term ++ after) u d 2 0 e tt
@@ -184,12 +186,12 @@ record Wrote (message words : List ℕ) (used root n : ℕ) (output' : List ℕ)
   text : take n output' ≡ plain (term_at message (rows_of used words) root)
   fits : n ≤ length output'
 
-wrote : (message words : List ℕ) (used root : ℕ) (scratch output : List ℕ) (n : ℕ) (scratch' output' : List ℕ) → written_as (Bytes n) scratch' output' ≡ write_answer message words used root scratch output
+wrote : (message words : List ℕ) (used root : ℕ) (scratch output : List ℕ) (n : ℕ) (scratch' output' : List ℕ) → written_as (Ok n) scratch' output' ≡ write_answer message words used root scratch output
     → Wrote message words used root n output'
 unfolding written_as write_refusal
 wrote message words used root scratch output n scratch' output' promise = by (writes message words used root scratch output) promise
   where
-    by : {a : A.Written} → Writes message words used root scratch output a → written_as (Bytes n) scratch' output' ≡ a → Wrote message words used root n output'
+    by : {a : A.Written} → Writes message words used root scratch output a → written_as (Ok n) scratch' output' ≡ a → Wrote message words used root n output'
     by (early m l h) e = absurd (omega (arith, ap (λ (w : A.Written). w.number) e))
     by (late m l) e = absurd (omega (arith, ap (λ (w : A.Written). w.number) e))
     by (whole s b f) e =
@@ -203,8 +205,8 @@ wrote message words used root scratch output n scratch' output' promise = by (wr
         }
 
 -- the bytes reported lie in the output
-pub bytes_fit : (message words : List ℕ) (used root : ℕ) (scratch output : List ℕ) (w : Written) (scratch' output' : List ℕ) → written_as w scratch' output' ≡ write_answer message words used root scratch output
-    → (n : ℕ) → w ≡ Bytes n → n ≤ length output'
+pub bytes_fit : (message words : List ℕ) (used root : ℕ) (scratch output : List ℕ) (w : Result ℕ Refusal) (scratch' output' : List ℕ) → written_as w scratch' output' ≡ write_answer message words used root scratch output
+    → (n : ℕ) → w ≡ Ok n → n ≤ length output'
 bytes_fit message words used root scratch output w scratch' output' promise n e = (wrote message words used root scratch output n scratch' output' (rw e at promise)).fits
 
 pub written-reads_back : WrittenReadsBack
@@ -212,17 +214,17 @@ written-reads_back message words used root scratch output w scratch' output' pro
     let wr = wrote message words used root scratch output n scratch' output' (rw q at promise) in
     rw (wr.text, wr.count) (text-back (term_at message (rows_of used words) root) wr.sound after t d u (rw wr.text at read))
 
-pub left-tables : (d : Decoded) (u : Tables) → u ≡ (decoded_as d u).tables
+pub left-tables : (d : Result Accepted Refused) (u : Tables) → u ≡ (decoded_as d u).tables
 unfolding decoded_as decode_refusal
-left-tables (Accepted consumed root used) u = refl
-left-tables (Refused number place) u = refl
+left-tables (Ok a) u = refl
+left-tables (Err x) u = refl
 
 -- a round trip: what it answers, the buffers that it leaves, and that no reading is refused but for a limit
 module _ (message words : List ℕ) (used root : ℕ) (scratch output : List ℕ) (t : Tables) (scratch' output' : List ℕ) (u : Tables) where
-  abbrev pub Trips : RoundTrip → Type 0
+  abbrev pub Trips : Result Accepted TripRefused → Type 0
   Trips r =
       (trip_as output' r u ≡ trip_says message words used root scratch output t)
-      × ((buffers scratch' output' u ≡ trip_leaves message words used root scratch output t) × ((number : ℕ) (place : Offset) → r ≡ NotRead number place → T (is_limit number)))
+      × ((buffers scratch' output' u ≡ trip_leaves message words used root scratch output t) × ((x : Refused) → r ≡ Err (NotRead x) → T (is_limit (number_of x.refusal))))
 
   abbrev answer : A.Written
   answer = write_answer message words used root scratch output
@@ -231,33 +233,33 @@ module _ (message words : List ℕ) (used root : ℕ) (scratch output : List ℕ
   term = term_at message (rows_of used words) root
 
   -- a refusal's number is not 0
-  some_number : (n : ℕ) → written_as (W.Refused n) scratch' output' ≡ answer → eqb answer.number 0 ≡ false
+  some_number : (n : Refusal) → written_as (Err n) scratch' output' ≡ answer → eqb answer.number 0 ≡ false
   unfolding written_as write_refusal
   some_number n promise = ne_eqb answer.number 0 (λ z. by (writes message words used root scratch output) promise z)
     where
-      by : {a : A.Written} → Writes message words used root scratch output a → written_as (W.Refused n) scratch' output' ≡ a → a.number ≡ 0 → ⊥
+      by : {a : A.Written} → Writes message words used root scratch output a → written_as (Err n) scratch' output' ≡ a → a.number ≡ 0 → ⊥
       by (early m l h) e z = omega arith
       by (late m l) e z = omega arith
       by (whole s b f) e z = omega (arith, ap (λ (w : A.Written). w.bytes) e, plain_size (term_at message (rows_of used words) root))
 
-  not_written_lem : (n : ℕ) → written_as (W.Refused n) scratch' output' ≡ answer → u ≡ t → Trips (NotWritten n)
+  not_written_lem : (n : Refusal) → written_as (Err n) scratch' output' ≡ answer → u ≡ t → Trips (Err (NotWritten n))
   unfolding trip_as trip_says trip_leaves written_as write_refusal
   not_written_lem n promise e =
-      let number : n ≡ answer.number = ap (λ (w : A.Written). w.number) promise in
-      (rw (some_number n promise) (ap not_written number), (rw (some_number n promise, ← promise, e) refl, λ m p q. let never : ◌≡◌ {A = ℕ} 0 1 = cc in absurd (omega arith)))
+      let number : number_of n ≡ answer.number = ap (λ (w : A.Written). w.number) promise in
+      (rw (some_number n promise) (ap not_written number), (rw (some_number n promise, ← promise, e) refl, λ x q. let never : ◌≡◌ {A = ℕ} 0 1 = cc in absurd (omega arith)))
 
   -- what was read back, as a round trip's answer
-  trip_back : (d : Decoded) → ReadsBack term (length (plain term)) (plain term) u d → take (length (plain term)) output' ≡ plain term → trip_as output' (reading d) u ≡ read_as term (decoded_as d u).root (in_terms (plain term) d u)
+  trip_back : (d : Result Accepted Refused) → ReadsBack term (length (plain term)) (plain term) u d → take (length (plain term)) output' ≡ plain term → trip_as output' (reading d) u ≡ read_as term (decoded_as d u).root (in_terms (plain term) d u)
   unfolding trip_as reading read_as in_terms decoded_as
   trip_back d (same top count s e) p = rw (p, e)
-  trip_back d (limit number place h) p = refl
+  trip_back d (limit x h) p = refl
 
-  only_limits : (d : Decoded) → ReadsBack term (length (plain term)) (plain term) u d → (number : ℕ) (place : Offset) → reading d ≡ NotRead number place → T (is_limit number)
+  only_limits : (d : Result Accepted Refused) → ReadsBack term (length (plain term)) (plain term) u d → (x : Refused) → reading d ≡ Err (NotRead x) → T (is_limit (number_of x.refusal))
   unfolding reading
-  only_limits d (same top count s e) number place q = let never : ◌≡◌ {A = ℕ} 0 1 = cc in absurd (omega arith)
-  only_limits d (limit m p h) number place q = let e : m ≡ number = cc in rw (← e) h
+  only_limits d (same top count s e) x q = let never : ◌≡◌ {A = ℕ} 0 1 = cc in absurd (omega arith)
+  only_limits d (limit y h) x q = let e : y ≡ x = cc in rw (← e) h
 
-  written_read : (n : ℕ) (d : Decoded) → written_as (Bytes n) scratch' output' ≡ answer → decoded_as d u ≡ decode_answer (take n output') t → Trips (reading d)
+  written_read : (n : ℕ) (d : Result Accepted Refused) → written_as (Ok n) scratch' output' ≡ answer → decoded_as d u ≡ decode_answer (take n output') t → Trips (reading d)
   unfolding trip_says trip_leaves written_as
   written_read n d promise read =
       let w = wrote message words used root scratch output n scratch' output' promise in
@@ -269,9 +271,9 @@ module _ (message words : List ℕ) (used root : ℕ) (scratch output : List ℕ
       (rw zero (trip_back d back head ∙ ap₂ (read_as term) (ap (λ (x : A.Decoded). x.root) text) (machine_says_lem (plain term) t d u text)), (rw (zero, ← promise) (ap (buffers scratch' output') tables), only_limits d back))
 
   -- the answer w of the writing
-  module _ (w : Written) (promise : written_as w scratch' output' ≡ answer) where
-    pub trip_refused : (n : ℕ) → w ≡ W.Refused n → u ≡ t → Trips (NotWritten n)
+  module _ (w : Result ℕ Refusal) (promise : written_as w scratch' output' ≡ answer) where
+    pub trip_refused : (n : Refusal) → w ≡ Err n → u ≡ t → Trips (Err (NotWritten n))
     trip_refused n e kept = not_written_lem n (rw e at promise) kept
 
-    pub trip_read : (n : ℕ) → w ≡ Bytes n → (d : Decoded) → decoded_as d u ≡ decode_answer (take n output') t → (r : RoundTrip) → r ≡ reading d → Trips r
+    pub trip_read : (n : ℕ) → w ≡ Ok n → (d : Result Accepted Refused) → decoded_as d u ≡ decode_answer (take n output') t → (r : Result Accepted TripRefused) → r ≡ reading d → Trips r
     trip_read n e d read r q = rw q (written_read n d (rw e at promise) read)

@@ -17,45 +17,46 @@ use Rattle.format.specs.Word as F
 use Rattle.format.specs.Word.{Format, formats, format_in, no_word, word_in, word_under, word_named, word_of_term}
 use Rattle.format.specs.Answer as A
 use Rattle.format.specs.Answer.{Tables, decode_answer, word_answer}
-use Rattle.format.specs.declared.Offset.{Offset}
+use Rattle.std.specs.Prelude.{Result, Ok, Err}
+use Rattle.format.specs.Number.{number_of}
 use Rattle.format.specs.declared.Row.{Row}
 use Rattle.format.proofs.Decoded.{accepts}
 use Rattle.format.proofs.Simulation.{terms_length}
 use Rattle.format.proofs.TableRows.{length-rows, passed}
 use Rattle.format.proofs.Tests.{true_of}
-use Rattle.decoder.specs.declared.Decoded.{Decoded}
-use Rattle.decoder.specs.declared.Decoded.TheVariants as D
-use Rattle.decoder.specs.declared.Decoded.TheVariants.{Accepted}
+use Rattle.format.specs.declared.refusal.Refusal.{Refusal}
+use Rattle.format.specs.declared.refusal.Refusal.TheVariants.{Uneven, NoWord}
+use Rattle.format.specs.declared.refusal.Refused.{Refused}
 use Rattle.decoder.specs.Answers.{decoded_as}
+use Rattle.decoder.specs.declared.Accepted.{Accepted}
 use Rattle.words.specs.Answers.{word_as}
-use Rattle.words.specs.declared.Word.{Word}
-use Rattle.words.specs.declared.Word.TheVariants.{Value, Refused}
-use Rattle.demands.specs.Demand2.{in_terms, machine_says, ReadsWord, AcceptedWords, word_read, word_found, word_says}
-use Rattle.demands.specs.declared.MessageWord.{MessageWord}
-use Rattle.demands.specs.declared.MessageWord.TheVariants.{NotDecoded}
+use Rattle.demands.specs.Demand2.{in_terms, machine_says, ReadsWord, AcceptedWords, Reading, reading_as, word_found, word_says}
+use Rattle.demands.specs.declared.WordRefused.{WordRefused}
+use Rattle.demands.specs.declared.WordRefused.TheVariants as W
 use Rattle.demands.proofs.Demand2.{number, demand2, left-tables}
+use Rattle.demands.proofs.Numbers.{at_least_1, same_refusal}
 
 -- an answer by its numbers
-refused_of : (w : Word) (n : ℕ) → 0 < n → word_as w ≡ no_word n → w ≡ Refused n
+refused_of : (w : Result ℤ Refusal) (r : Refusal) → word_as w ≡ no_word (number_of r) → w ≡ Err r
 unfolding word_as
-refused_of (Value z) n h e = absurd (omega (arith, ap (λ (a : F.Word). a.number) e))
-refused_of (Refused m) n h e = ap (λ (l : ℕ). Refused l) (ap (λ (a : F.Word). a.number) e)
+refused_of (Ok z) r e = absurd (omega (arith, at_least_1 r, ap (λ (a : F.Word). a.number) e))
+refused_of (Err m) r e = ap (λ (x : Refusal). Err x) (same_refusal m r (ap (λ (a : F.Word). a.number) e))
 
-value_of : (w : Word) (z : ℤ) → (w ≡ Refused 0 → ⊥) → word_as w ≡ record { number = 0; value = z } → w ≡ Value z
+value_of : (w : Result ℤ Refusal) (z : ℤ) → word_as w ≡ record { number = 0; value = z } → w ≡ Ok z
 unfolding word_as
-value_of (Value y) z h e = ap (λ (x : ℤ). Value x) (ap (λ (a : F.Word). a.value) e)
-value_of (Refused m) z h e = absurd (h (ap (λ (l : ℕ). Refused l) (ap (λ (a : F.Word). a.number) e)))
+value_of (Ok y) z e = ap (λ (x : ℤ). Ok x) (ap (λ (a : F.Word). a.value) e)
+value_of (Err m) z e = absurd (omega (arith, at_least_1 m, ap (λ (a : F.Word). a.number) e))
 
 -- what is said of word k of some bytes
-reads : (f : Format) (bytes : List ℕ) (k : ℕ) (w : Word) → word_as w ≡ word_in f bytes k → (w ≡ Refused 0 → ⊥) → ReadsWord f bytes k w
+reads : (f : Format) (bytes : List ℕ) (k : ℕ) (w : Result ℤ Refusal) → word_as w ≡ word_in f bytes k → ReadsWord f bytes k w
 unfolding word_in
-reads f bytes k w e h =
+reads f bytes k w e =
     let rest = length bytes % f.width in
     let words = length bytes / f.width in
     record {
-      word = λ even inside. value_of w _ h (e ∙ rw (eq-eqb rest 0 even, lt-leb words k inside) refl);
-      past = λ even over. refused_of w 20 (omega arith) (e ∙ rw (eq-eqb rest 0 even, le-leb words k over) refl);
-      uneven = λ odd. refused_of w 19 (omega arith) (e ∙ rw (ne_eqb rest 0 odd) refl);
+      word = λ even inside. value_of w _ (e ∙ rw (eq-eqb rest 0 even, lt-leb words k inside) refl);
+      past = λ even over. refused_of w NoWord (e ∙ rw (eq-eqb rest 0 even, le-leb words k over) refl);
+      uneven = λ odd. refused_of w Uneven (e ∙ rw (ne_eqb rest 0 odd) refl);
     }
 
 -- a row at which a tag stands is among those used: past them there is none
@@ -80,48 +81,53 @@ sound-at message words used root row h l =
     rw (le-leb used (row_room words) p.fits, lt-ltb row used l, true_of (sound_rows message (rows_of used words)) p.rows) refl
 
 -- `read_word`, on the table that `decode` left of an accepted message, answers by the term at the row
-row_word : (message : List ℕ) (t u : Tables) (consumed : ℕ) (root : Row) (used : ℕ) → decoded_as (Accepted consumed root used) u ≡ decode_answer message t
-    → (row : ℕ) → row < used → (k : ℕ) → word_answer message u.rows used row k ≡ word_of_term (term_at message (rows_of used u.rows) row) k
+row_word : (message : List ℕ) (t u : Tables) (a : Accepted) → decoded_as (Ok a) u ≡ decode_answer message t
+    → (row : ℕ) → row < a.used → (k : ℕ) → word_answer message u.rows a.used row k ≡ word_of_term (term_at message (rows_of a.used u.rows) row) k
 unfolding word_answer
-row_word message t u consumed root used promise row l k =
-    let short = (accepts message t (number message t u consumed root used promise)).in_bound in
-    rw (short, sound-at message u.rows used root.0 row ((demand2 message t _ u promise).sound consumed root used refl) l) refl
+row_word message t u a promise row l k =
+    let short = (accepts message t (number message t u a promise)).in_bound in
+    rw (short, sound-at message u.rows a.used a.root.0 row ((demand2 message t _ u promise).sound a refl) l) refl
 
 -- and where a tag of a known name over a binary stands there, by that binary's bytes
-pub block_word : (message : List ℕ) (t u : Tables) (consumed : ℕ) (root : Row) (used : ℕ) → decoded_as (Accepted consumed root used) u ≡ decode_answer message t
-    → (row : ℕ) (name bytes : List ℕ) → term_at message (rows_of used u.rows) row ≡ tag name (binary bytes) → (f : Format) → format_in formats name ≡ some f
-    → (k : ℕ) → word_answer message u.rows used row k ≡ word_in f bytes k
+pub block_word : (message : List ℕ) (t u : Tables) (a : Accepted) → decoded_as (Ok a) u ≡ decode_answer message t
+    → (row : ℕ) (name bytes : List ℕ) → term_at message (rows_of a.used u.rows) row ≡ tag name (binary bytes) → (f : Format) → format_in formats name ≡ some f
+    → (k : ℕ) → word_answer message u.rows a.used row k ≡ word_in f bytes k
 unfolding word_of_term word_named word_under
-block_word message t u consumed root used promise row name bytes at f known k =
-    row_word message t u consumed root used promise row (tag-among message u.rows used row name (binary bytes) at) k ∙ rw (at, known) refl
+block_word message t u a promise row name bytes at f known k =
+    row_word message t u a promise row (tag-among message u.rows a.used row name (binary bytes) at) k ∙ rw (at, known) refl
 
 pub accepted-words : AcceptedWords
-accepted-words message t u consumed root used promise row name bytes at f known k w answer numbered =
-    reads f bytes k w (answer ∙ block_word message t u consumed root used promise row.0 name bytes at f known k) numbered
+accepted-words message t u a promise row name bytes at f known k w answer =
+    reads f bytes k w (answer ∙ block_word message t u a promise row.0 name bytes at f known k)
+
+-- the answer of `read_word` as that of a function that decodes a message first
+unfoldable pub word_read : Result ℤ Refusal → Result ℤ WordRefused
+word_read (Ok z) = Ok z
+word_read (Err r) = Err (W.NoWord r)
 
 -- a word of a message's own term: what is answered, and the tables left
-found-read : (w : Word) → (w ≡ Refused 0 → ⊥) → word_read w ≡ word_found (word_as w)
-unfolding word_read word_found word_as
-found-read (Value z) h = refl
-found-read (Refused n) h = rw (ne_eqb n 0 (λ e. h (ap (λ (m : ℕ). Refused m) e))) refl
+found-read : (w : Result ℤ Refusal) → reading_as (word_read w) ≡ word_found (word_as w)
+unfolding reading_as word_read word_found word_as
+found-read (Ok z) = refl
+found-read (Err r) = rw (ne_eqb (number_of r) 0 (λ e. omega (arith, at_least_1 r))) refl
 
 module _ (message : List ℕ) (t : Tables) (k : ℕ) where
-  abbrev pub Meets : MessageWord → Tables → Type 0
-  Meets r u = (r ≡ word_says (machine_says message t) k) × (u ≡ (decode_answer message t).tables)
+  abbrev pub Meets : Result ℤ WordRefused → Tables → Type 0
+  Meets r u = (reading_as r ≡ word_says (machine_says message t) k) × (u ≡ (decode_answer message t).tables)
 
-  module _ (d : Decoded) (u : Tables) (promise : decoded_as d u ≡ decode_answer message t) where
+  module _ (d : Result Accepted Refused) (u : Tables) (promise : decoded_as d u ≡ decode_answer message t) where
     left : u ≡ (decode_answer message t).tables
     left = left-tables d u ∙ ap (λ (a : A.Decoded). a.tables) promise
 
-    pub not-decoded : (n : ℕ) (p : Offset) → d ≡ D.Refused n p → Meets (NotDecoded n p) u
-    unfolding word_says in_terms
-    not-decoded n p e = (rw (← (demand2 message t d u promise).machine, e) refl, left)
+    pub not-decoded : (x : Refused) → d ≡ Err x → Meets (Err (W.NotDecoded x)) u
+    unfolding reading_as word_says in_terms
+    not-decoded x e = (rw (← (demand2 message t d u promise).machine, e) refl, left)
 
-    pub decoded : (consumed : ℕ) (root : Row) (used : ℕ) → d ≡ Accepted consumed root used
-        → (w : Word) → word_as w ≡ word_answer message u.rows used root.0 k → (w ≡ Refused 0 → ⊥) → (r : MessageWord) → r ≡ word_read w → Meets r u
+    pub decoded : (a : Accepted) → d ≡ Ok a
+        → (w : Result ℤ Refusal) → word_as w ≡ word_answer message u.rows a.used a.root.0 k → Meets (word_read w) u
     unfolding word_says in_terms
-    decoded consumed root used e w answer numbered r v =
-        let accepts-it : decoded_as (Accepted consumed root used) u ≡ decode_answer message t = rw e at promise in
-        let among = (passed message u.rows used root.0 ((demand2 message t _ u accepts-it).sound consumed root used refl)).among in
-        let told = answer ∙ row_word message t u consumed root used accepts-it root.0 among k in
-        (rw (← (demand2 message t d u promise).machine, e) (v ∙ found-read w numbered ∙ ap word_found told), left)
+    decoded a e w answer =
+        let accepts-it : decoded_as (Ok a) u ≡ decode_answer message t = rw e at promise in
+        let among = (passed message u.rows a.used a.root.0 ((demand2 message t _ u accepts-it).sound a refl)).among in
+        let told = answer ∙ row_word message t u a accepts-it a.root.0 among k in
+        (rw (← (demand2 message t d u promise).machine, e) (found-read w ∙ ap word_found told), left)

@@ -1,24 +1,24 @@
 -- Demand 3: two messages that the decoder accepted, whatever their registers, sharing and tables: the comparison, on the shared rows, never refuses, and says
 -- "equal" exactly when the full plain texts of the two terms are the same bytes, even where no buffer could hold those texts.
-use Rattle.std.specs.Prelude.{ℕ, ◌+◌, ◌≤◌, ◌≡◌, cond, List, length, eqb, ltb}
+use Rattle.std.specs.Prelude.{ℕ, ◌+◌, ◌≤◌, ◌≡◌, Bool, true, false, cond, List, length, eqb, ltb, Result, Ok, Err}
 use Rattle.std.proofs.Math.Option.{some}
 use Rattle.format.specs.Byte.{same_bytes}
-use Rattle.format.specs.Machine.{Outcome, Result, refused, accepted}
+use Rattle.format.specs.Machine as M
+use Rattle.format.specs.Machine.{Outcome, refused, accepted}
 use Rattle.format.specs.Meaning.{term_values, message_term}
+use Rattle.format.specs.Number.{number_of}
 use Rattle.format.specs.Term.{Term}
 use Rattle.format.specs.Text.{plain}
 use Rattle.format.specs.Answer.{Tables, zeroed, decode_answer, compare_answer, tables}
-use Rattle.format.specs.declared.Row.{Row}
+use Rattle.format.specs.declared.refusal.Refusal.{Refusal}
 use Rattle.decoder.specs.Answers.{decoded_as}
-use Rattle.decoder.specs.declared.Decoded.TheVariants.{Accepted}
+use Rattle.decoder.specs.declared.Accepted.{Accepted}
 use Rattle.comparison.specs.Answers.{compared_as}
-use Rattle.comparison.specs.declared.Compared.{Compared}
-use Rattle.comparison.specs.declared.Compared.TheVariants as C
-use Rattle.demands.specs.declared.MessagesCompared.{MessagesCompared}
-use Rattle.demands.specs.declared.MessagesCompared.TheVariants.{FirstRefused, SecondRefused, ScratchTooShort, Equal, Different}
+use Rattle.demands.specs.declared.NotCompared.{NotCompared}
+use Rattle.demands.specs.declared.NotCompared.TheVariants.{First, Second, ShortScratch}
 
 -- two messages were compared with the answer c, and the scratch was left as scratch'
-pub record ComparesTexts (message_a message_b scratch : List ℕ) (c : Compared) (scratch' : List ℕ) : Type 0 where
+pub record ComparesTexts (message_a message_b scratch : List ℕ) (c : Result Bool Refusal) (scratch' : List ℕ) : Type 0 where
   -- the terms of the messages, by their bytes alone
   pub term_a : Term
   pub term_b : Term
@@ -27,34 +27,43 @@ pub record ComparesTexts (message_a message_b scratch : List ℕ) (c : Compared)
   -- 0 and 1 where their full plain texts are the same bytes, otherwise 0 and 0; the scratch is zero
   pub answer : compared_as c scratch' ≡ record { number = 0; equal = cond (same_bytes (plain term_a) (plain term_b)) 1 0; scratch = zeroed scratch }
   -- never a refusal
-  pub never : (number : ℕ) → c ≡ C.Refused number → ⊥
+  pub never : (e : Refusal) → c ≡ Err e → ⊥
   -- equal exactly where the texts are
-  pub equal : c ≡ C.Equal → plain term_a ≡ plain term_b
-  pub same : plain term_a ≡ plain term_b → c ≡ C.Equal
+  pub equal : c ≡ Ok true → plain term_a ≡ plain term_b
+  pub same : plain term_a ≡ plain term_b → c ≡ Ok true
 
 -- for any two messages that `decode` accepts, each with tables of any lengths and any old contents, and any scratch of at least the rows used of both: `compare`, on
 -- the messages, the row tables as `decode` left them, and the counts and roots that it answered, compares the full plain texts of the two messages' terms
 abbrev pub AcceptedCompare : Type 0
 AcceptedCompare =
-    (message_a : List ℕ) (t_a u_a : Tables) (consumed_a : ℕ) (root_a : Row) (used_a : ℕ) → decoded_as (Accepted consumed_a root_a used_a) u_a ≡ decode_answer message_a t_a
-    → (message_b : List ℕ) (t_b u_b : Tables) (consumed_b : ℕ) (root_b : Row) (used_b : ℕ) → decoded_as (Accepted consumed_b root_b used_b) u_b ≡ decode_answer message_b t_b
-    → (scratch : List ℕ) → used_a + used_b ≤ length scratch
-    → (c : Compared) (scratch' : List ℕ) → compared_as c scratch' ≡ compare_answer message_a u_a.rows used_a root_a.0 message_b u_b.rows used_b root_b.0 scratch → (c ≡ C.Refused 0 → ⊥)
+    (message_a : List ℕ) (t_a u_a : Tables) (a : Accepted) → decoded_as (Ok a) u_a ≡ decode_answer message_a t_a
+    → (message_b : List ℕ) (t_b u_b : Tables) (b : Accepted) → decoded_as (Ok b) u_b ≡ decode_answer message_b t_b
+    → (scratch : List ℕ) → a.used + b.used ≤ length scratch
+    → (c : Result Bool Refusal) (scratch' : List ℕ) → compared_as c scratch' ≡ compare_answer message_a u_a.rows a.used a.root.0 message_b u_b.rows b.used b.root.0 scratch
     → ComparesTexts message_a message_b scratch c scratch'
 
--- the answer of `compare` as that of such a comparison
-unfoldable pub verdict : Compared → MessagesCompared
-verdict C.Equal = Equal
-verdict C.Different = Different
-verdict (C.Refused number) = ScratchTooShort
+-- two messages decoded and compared: the refusal of the first, or of the second; a scratch that is too short; the same texts, or others
+pub data Comparison : Type 0 where
+  first_refused : ℕ → ℕ → Comparison
+  second_refused : ℕ → ℕ → Comparison
+  scratch_too_short : Comparison
+  equal : Comparison
+  different : Comparison
 
--- what a function that decodes two messages and compares them has to answer, from what the machine at terms says of each and the length of the scratch
-unfoldable pub comparison_says : Outcome (Result term_values) → Outcome (Result term_values) → ℕ → MessagesCompared
-comparison_says (refused number place) b room = FirstRefused number (record { 0 = place })
-comparison_says (accepted k x) (refused number place) room = SecondRefused number (record { 0 = place })
+-- the answer of a function that decodes two messages and compares them
+unfoldable pub comparison_as : Result Bool NotCompared → Comparison
+comparison_as (Ok same) = cond same equal different
+comparison_as (Err (First e)) = first_refused (number_of e.refusal) e.place.0
+comparison_as (Err (Second e)) = second_refused (number_of e.refusal) e.place.0
+comparison_as (Err ShortScratch) = scratch_too_short
+
+-- what it has to answer, from what the machine at terms says of each message and the length of the scratch
+unfoldable pub comparison_says : Outcome (M.Result term_values) → Outcome (M.Result term_values) → ℕ → Comparison
+comparison_says (refused number place) b room = first_refused number place
+comparison_says (accepted k x) (refused number place) room = second_refused number place
 comparison_says (accepted k x) (accepted l y) room =
-    cond (ltb room (x.used + y.used)) ScratchTooShort
-    (cond (same_bytes (plain x.root) (plain y.root)) Equal Different)
+    cond (ltb room (x.used + y.used)) scratch_too_short
+    (cond (same_bytes (plain x.root) (plain y.root)) equal different)
 
 -- the buffers that it leaves: the first message's rows, the tables of the second, the scratch
 pub record ComparisonBuffers : Type 0 where

@@ -47,8 +47,8 @@ loop-classes-preserved c =
     in
     (goes_on _ _ _ _ kept _ _ c.loop-classes.invariant (byte_here _ _ c.if-message-i.false) _ (rw c.in-More.is at c.step-a.ensures)).0
 
-pub overflow_add-result : goal.overflow_add-result
-overflow_add-result c = omega (arith, c.if-message-i.false, c.requires.bounds.0)
+pub overflow_add-accepted : goal.overflow_add-accepted
+overflow_add-accepted c = omega (arith, c.if-message-i.false, c.requires.bounds.0)
 
 pub shape_of-rows-in-Done : goal.shape_of-rows-in-Done
 shape_of-rows-in-Done c = c.step-a.auto.rows ∙ sym c.loop-classes.invariant.same.rows
