@@ -2,20 +2,22 @@
 //! promises: crates/demands/specs has the statements.
 #![tactic(auto)]
 
-ghost use Rattle.std.specs.Prelude.{◌≡◌, ℕ, T, length};
+ghost use Rattle.std.specs.Prelude.{◌≡◌, T, length, Err};
+ghost use Rattle.format.specs.Number.{number_of};
 ghost use Rattle.format.specs.Answer.{decode_answer, write_answer, compare_answer, tables};
+ghost use Rattle.format.specs.declared.refusal.Refused.{Refused};
 ghost use Rattle.decoder.specs.Answers.{decoded_as};
 ghost use Rattle.text.specs.Answers.{written_as};
 ghost use Rattle.comparison.specs.Answers.{compared_as};
+ghost use Rattle.demands.specs.declared.TripRefused.TheVariants.{NotRead};
 ghost use Rattle.demands.specs.Demand1.{DecodeTouches, WriteTouches, CompareTouches};
-ghost use Rattle.demands.specs.Demand2.{DecodeMeans, machine_says, trip_as, trip_says, trip_leaves, buffers, is_limit, word_says};
-ghost use Rattle.demands.specs.Demand3.{comparison_says, comparison_leaves, comparison_buffers};
+ghost use Rattle.demands.specs.Demand2.{DecodeMeans, machine_says, trip_as, trip_says, trip_leaves, buffers, is_limit, reading_as, word_says};
+ghost use Rattle.demands.specs.Demand3.{comparison_as, comparison_says, comparison_leaves, comparison_buffers};
 
-use comparison::Compared;
-use decoder::Decoded;
-use demands::{MessageWord, MessagesCompared, RoundTrip};
-use format::{Offset, Row};
-use text::Written;
+use decoder::Accepted;
+use demands::{NotCompared, TripRefused, WordRefused};
+use format::Row;
+use format::refusal::{Refusal, Refused};
 
 // Decodes a message: what it leaves behind (demand 1), and the term that it means (demand 2).
 pub fn decode(
@@ -24,7 +26,7 @@ pub fn decode(
     stack: &mut [u32],
     marks: &mut [u32],
     registers: &mut [u32],
-) -> Decoded
+) -> Result<Accepted, Refused>
     ensures answer { decoded_as result (tables rows.new stack.new marks.new registers.new) ≡ decode_answer message.now (tables rows.old stack.old marks.old registers.old) }
     ensures decode_touches { DecodeTouches (tables rows.old stack.old marks.old registers.old) result (tables rows.new stack.new marks.new registers.new) }
     ensures decode_means { DecodeMeans message.now (tables rows.old stack.old marks.old registers.old) result (tables rows.new stack.new marks.new registers.new) }
@@ -40,7 +42,7 @@ pub fn write(
     root: Row,
     scratch: &mut [u32],
     output: &mut [u8],
-) -> Written
+) -> Result<usize, Refusal>
     ensures answer { written_as result scratch.new output.new ≡ write_answer message.now rows.now used root.0 scratch.old output.old }
     ensures write_touches { WriteTouches scratch.old output.old result scratch.new output.new }
 {
@@ -60,18 +62,13 @@ pub fn round_trip(
     stack: &mut [u32],
     marks: &mut [u32],
     registers: &mut [u32],
-) -> RoundTrip
+) -> Result<Accepted, TripRefused>
     ensures answer { trip_as output.new result (tables back.new stack.new marks.new registers.new) ≡ trip_says message.now rows.now used root.0 scratch.old output.old (tables back.old stack.old marks.old registers.old) }
     ensures buffers_after { buffers scratch.new output.new (tables back.new stack.new marks.new registers.new) ≡ trip_leaves message.now rows.now used root.0 scratch.old output.old (tables back.old stack.old marks.old registers.old) }
-    ensures limits_only { (number : ℕ) (place : Offset) → result ≡ RoundTrip.NotRead number place → T (is_limit number) }
+    ensures limits_only { (e : Refused) → result ≡ Err (NotRead e) → T (is_limit (number_of e.refusal)) }
 {
-    let w = text::write(message, rows, used, root, scratch, output);
-    match w {
-        Written::Refused(number) => RoundTrip::NotWritten(number),
-        Written::Bytes(n) => {
-            demands::read_answer(decoder::decode(&output[..n], back, stack, marks, registers))
-        }
-    }
+    let n = text::write(message, rows, used, root, scratch, output)?;
+    Ok(decoder::decode(&output[..n], back, stack, marks, registers)?)
 }
 
 // Decodes a message whose term is a sensor block, and reads word k of it in the order that its tag names (demand 2).
@@ -82,17 +79,12 @@ pub fn message_word(
     marks: &mut [u32],
     registers: &mut [u32],
     k: u64,
-) -> MessageWord
-    ensures value { result ≡ word_says (machine_says message.now (tables rows.old stack.old marks.old registers.old)) k }
+) -> Result<i64, WordRefused>
+    ensures value { reading_as result ≡ word_says (machine_says message.now (tables rows.old stack.old marks.old registers.old)) k }
     ensures tables_after { tables rows.new stack.new marks.new registers.new ≡ (decode_answer message.now (tables rows.old stack.old marks.old registers.old)).tables }
 {
-    let d = decoder::decode(message, rows, stack, marks, registers);
-    match d {
-        Decoded::Refused(number, place) => MessageWord::NotDecoded(number, place),
-        Decoded::Accepted(_, root, used) => {
-            demands::word_answer(words::read_word(message, rows, used, root, k))
-        }
-    }
+    let read = decoder::decode(message, rows, stack, marks, registers)?;
+    words::read_word(message, rows, read.used, read.root, k).map_err(WordRefused::NoWord)
 }
 
 // Compares the plain texts of two tables' roots: what it leaves behind (demand 1).
@@ -106,7 +98,7 @@ pub fn compare(
     used_b: u32,
     root_b: Row,
     scratch: &mut [u32],
-) -> Compared
+) -> Result<bool, Refusal>
     ensures answer { compared_as result scratch.new ≡ compare_answer message_a.now rows_a.now used_a root_a.0 message_b.now rows_b.now used_b root_b.0 scratch.old }
     ensures compare_touches { CompareTouches scratch.old result scratch.new }
 {
@@ -125,21 +117,18 @@ pub fn compare_messages(
     marks: &mut [u32],
     registers: &mut [u32],
     scratch: &mut [u32],
-) -> MessagesCompared
-    ensures value { result ≡ comparison_says (machine_says message_a.now (tables rows_a.old stack.old marks.old registers.old)) (machine_says message_b.now (tables rows_b.old stack.old marks.old registers.old)) (length scratch.old) }
+) -> Result<bool, NotCompared>
+    ensures value { comparison_as result ≡ comparison_says (machine_says message_a.now (tables rows_a.old stack.old marks.old registers.old)) (machine_says message_b.now (tables rows_b.old stack.old marks.old registers.old)) (length scratch.old) }
     ensures buffers_after { comparison_buffers rows_a.new (tables rows_b.new stack.new marks.new registers.new) scratch.new ≡ comparison_leaves message_a.now rows_a.old message_b.now (tables rows_b.old stack.old marks.old registers.old) scratch.old }
 {
-    let a = decoder::decode(message_a, rows_a, stack, marks, registers);
-    match a {
-        Decoded::Refused(number, place) => MessagesCompared::FirstRefused(number, place),
-        Decoded::Accepted(_, root_a, used_a) => {
-            let b = decoder::decode(message_b, rows_b, stack, marks, registers);
-            match b {
-                Decoded::Refused(number, place) => MessagesCompared::SecondRefused(number, place),
-                Decoded::Accepted(_, root_b, used_b) => demands::verdict_of(comparison::compare(
-                    message_a, rows_a, used_a, root_a, message_b, rows_b, used_b, root_b, scratch,
-                )),
-            }
-        }
-    }
+    let a = decoder::decode(message_a, rows_a, stack, marks, registers).map_err(
+        NotCompared::First,
+    )?;
+    let b = decoder::decode(message_b, rows_b, stack, marks, registers).map_err(
+        NotCompared::Second,
+    )?;
+    comparison::compare(
+        message_a, rows_a, a.used, a.root, message_b, rows_b, b.used, b.root, scratch,
+    )
+    .or(Err(NotCompared::ShortScratch))
 }

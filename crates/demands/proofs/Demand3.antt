@@ -20,6 +20,7 @@ use Rattle.format.proofs.SameBytes.{same_bytes_lem, same_refl}
 use Rattle.format.proofs.Tests.{true_of}
 use Rattle.format.proofs.Unchanged.{same-limits}
 use Rattle.std.specs.Prelude.{Result, Ok, Err}
+use Rattle.std.specs.Result.{result_or}
 use Rattle.format.specs.Number.{number_of}
 use Rattle.format.specs.declared.refusal.Refusal.{Refusal}
 use Rattle.format.specs.declared.refusal.Refused.{Refused}
@@ -58,15 +59,10 @@ same-equal (Ok true) scratch' e = refl
 same-equal (Ok false) scratch' e = absurd (omega arith)
 same-equal (Err n) scratch' e = absurd (omega arith)
 
--- the answer of `compare` as that of a comparison of two messages whose tables `decode` left: the only refusal is that of the scratch
-unfoldable pub verdict : Result Bool Refusal → Result Bool NotCompared
-verdict (Ok same) = Ok same
-verdict (Err refusal) = Err ShortScratch
-
--- and what the comparison of messages answers for it
+-- and what the comparison of two messages answers for it, whose tables `decode` left: the only refusal is that of the scratch
 verdict-told : (c : Result Bool Refusal) (scratch' : List ℕ) (short same : Bool) (scratch : List ℕ) → (compared_as c scratch').number ≡ (told short same scratch).number → (compared_as c scratch').equal ≡ (told short same scratch).equal
-    → comparison_as (verdict c) ≡ cond short scratch_too_short (cond same equal different)
-unfolding compared_as compare_refusal comparison_as verdict
+    → comparison_as (result_or c (Err ShortScratch)) ≡ cond short scratch_too_short (cond same equal different)
+unfolding compared_as compare_refusal comparison_as
 verdict-told (Ok true) scratch' true same scratch n e = absurd (omega arith)
 verdict-told (Ok true) scratch' false true scratch n e = refl
 verdict-told (Ok true) scratch' false false scratch n e = absurd (omega arith)
@@ -172,7 +168,7 @@ module _ (message_a rows message_b : List ℕ) (t : Tables) (scratch : List ℕ)
       -- both are accepted; the answer c of `compare`, which leaves scratch'
       pub both-accepted : (b : Accepted) → second_answer ≡ Ok b
           → (c : Result Bool Refusal) (scratch' : List ℕ) → compared_as c scratch' ≡ compare_answer message_a u_a.rows a.used a.root.0 message_b u_b.rows b.used b.root.0 scratch
-          → Meets (verdict c) u_a.rows u_b scratch'
+          → Meets (result_or c (Err ShortScratch)) u_a.rows u_b scratch'
       unfolding comparison_says comparison_leaves in_terms decoded_as
       both-accepted b f c scratch' promise =
           let other : decoded_as (Ok b) u_b ≡ decode_answer message_b (lent t.rows u_a) = rw f at second in

@@ -34,6 +34,7 @@ use Rattle.demands.specs.Demand2.{in_terms, machine_says, ReadsWord, AcceptedWor
 use Rattle.demands.specs.declared.WordRefused.{WordRefused}
 use Rattle.demands.specs.declared.WordRefused.TheVariants as W
 use Rattle.demands.proofs.Demand2.{number, demand2, left-tables}
+use Rattle.demands.proofs.Errors.{with_error}
 use Rattle.demands.proofs.Numbers.{at_least_1, same_refusal}
 
 -- an answer by its numbers
@@ -100,14 +101,9 @@ pub accepted-words : AcceptedWords
 accepted-words message t u a promise row name bytes at f known k w answer =
     reads f bytes k w (answer ∙ block_word message t u a promise row.0 name bytes at f known k)
 
--- the answer of `read_word` as that of a function that decodes a message first
-unfoldable pub word_read : Result ℤ Refusal → Result ℤ WordRefused
-word_read (Ok z) = Ok z
-word_read (Err r) = Err (W.NoWord r)
-
 -- a word of a message's own term: what is answered, and the tables left
-found-read : (w : Result ℤ Refusal) → reading_as (word_read w) ≡ word_found (word_as w)
-unfolding reading_as word_read word_found word_as
+found-read : (w : Result ℤ Refusal) → reading_as (with_error W.NoWord w) ≡ word_found (word_as w)
+unfolding reading_as word_found word_as
 found-read (Ok z) = refl
 found-read (Err r) = rw (ne_eqb (number_of r) 0 (λ e. omega (arith, at_least_1 r))) refl
 
@@ -124,7 +120,7 @@ module _ (message : List ℕ) (t : Tables) (k : ℕ) where
     not-decoded x e = (rw (← (demand2 message t d u promise).machine, e) refl, left)
 
     pub decoded : (a : Accepted) → d ≡ Ok a
-        → (w : Result ℤ Refusal) → word_as w ≡ word_answer message u.rows a.used a.root.0 k → Meets (word_read w) u
+        → (w : Result ℤ Refusal) → word_as w ≡ word_answer message u.rows a.used a.root.0 k → Meets (with_error W.NoWord w) u
     unfolding word_says in_terms
     decoded a e w answer =
         let accepts-it : decoded_as (Ok a) u ≡ decode_answer message t = rw e at promise in

@@ -10,7 +10,7 @@ use Rattle.demands.proofs.SensorWords.{block_word}
 use Rattle.ubfa.specs.Answers.{word_struct}
 use Rattle.ubfa.specs.Demand2.{ReadsWord, AcceptedWords}
 use Rattle.ubfa.specs.declared.UbfaWord.{UbfaWord}
-use Rattle.ubfa.proofs.Accepted.{root_of, as_accepted}
+use Rattle.ubfa.proofs.Accepted.{accepted_of, as_accepted}
 
 reads : (f : Format) (bytes : List ℕ) (k : ℕ) (w : UbfaWord) → word_struct w ≡ word_in f bytes k → ReadsWord f bytes k w
 unfolding word_struct word_in
@@ -26,4 +26,4 @@ reads f bytes k w e =
 
 pub accepted-words : AcceptedWords
 accepted-words message t u a promise zero row name bytes at f known k w answer =
-    reads f bytes k w (answer ∙ block_word message t u a.place (root_of a) a.rows (as_accepted message t u a promise zero) row name bytes at f known k)
+    reads f bytes k w (answer ∙ block_word message t u (accepted_of a) (as_accepted message t u a promise zero) row name bytes at f known k)

@@ -11,11 +11,9 @@ ghost use Rattle.comparison.specs.Answers.{compared_as};
 ghost use Rattle.words.specs.Answers.{word_as};
 ghost use Rattle.ubfa.specs.Answers.{decoded_struct, written_struct, compared_struct, word_struct};
 
-use comparison::Compared;
-use decoder::Decoded;
+use decoder::Accepted;
 use format::Row;
-use text::Written;
-use words::Word;
+use format::refusal::{Refusal, Refused};
 
 // 0, bytes consumed, root row and rows used; or a refusal's number, its place, 0 and 0.
 #[repr(C)]
@@ -51,21 +49,21 @@ pub struct UbfaWord {
     pub value: i64,
 }
 
-// The numbers of what `decode` answers. A place is at most the message bound, so it fits a word.
-fn decoded_numbers(d: Decoded) -> UbfaDecoded
-    requires { (t : Tables) → (decoded_as d t).place ≤ message_bound }
-    ensures { (t : Tables) → decoded_struct result t ≡ decoded_as d t }
+// The numbers of what `decode` answers. A place is at most the message bound, so it fits a word: `From` could not ask for that.
+fn decoded_numbers(answer: Result<Accepted, Refused>) -> UbfaDecoded
+    requires { (t : Tables) → (decoded_as answer t).place ≤ message_bound }
+    ensures { (t : Tables) → decoded_struct result t ≡ decoded_as answer t }
 {
-    match d {
-        Decoded::Accepted(consumed, root, used) => UbfaDecoded {
+    match answer {
+        Ok(accepted) => UbfaDecoded {
             number: 0,
-            place: consumed as u32,
-            root: root.0,
-            rows: used,
+            place: accepted.consumed as u32,
+            root: accepted.root.0,
+            rows: accepted.used,
         },
-        Decoded::Refused(number, place) => UbfaDecoded {
-            number: number as u32,
-            place: place.0 as u32,
+        Err(refused) => UbfaDecoded {
+            number: refused.refusal.into(),
+            place: refused.place.0 as u32,
             root: 0,
             rows: 0,
         },
@@ -73,54 +71,53 @@ fn decoded_numbers(d: Decoded) -> UbfaDecoded
 }
 
 // The numbers of what `write` answers.
-fn written_numbers(w: Written) -> UbfaWritten
-    ensures { (scratch output : List ℕ) → written_struct result scratch output ≡ written_as w scratch output }
-{
-    match w {
-        Written::Bytes(n) => UbfaWritten {
-            number: 0,
-            bytes: n as u64,
-        },
-        Written::Refused(number) => UbfaWritten {
-            number: number as u32,
-            bytes: 0,
-        },
+impl From<Result<usize, Refusal>> for UbfaWritten {
+    ghost from_gives = { λ answer numbers. (scratch output : List ℕ) → written_struct numbers scratch output ≡ written_as answer scratch output };
+
+    fn from(answer: Result<usize, Refusal>) -> UbfaWritten {
+        match answer {
+            Ok(n) => UbfaWritten {
+                number: 0,
+                bytes: n as u64,
+            },
+            Err(refusal) => UbfaWritten {
+                number: refusal.into(),
+                bytes: 0,
+            },
+        }
     }
 }
 
 // The numbers of what `compare` answers.
-fn compared_numbers(c: Compared) -> UbfaCompared
-    ensures { (scratch : List ℕ) → compared_struct result scratch ≡ compared_as c scratch }
-{
-    match c {
-        Compared::Equal => UbfaCompared {
-            number: 0,
-            equal: 1,
-        },
-        Compared::Different => UbfaCompared {
-            number: 0,
-            equal: 0,
-        },
-        Compared::Refused(number) => UbfaCompared {
-            number: number as u32,
-            equal: 0,
-        },
+impl From<Result<bool, Refusal>> for UbfaCompared {
+    ghost from_gives = { λ answer numbers. (scratch : List ℕ) → compared_struct numbers scratch ≡ compared_as answer scratch };
+
+    fn from(answer: Result<bool, Refusal>) -> UbfaCompared {
+        match answer {
+            Ok(same) => UbfaCompared {
+                number: 0,
+                equal: u32::from(same),
+            },
+            Err(refusal) => UbfaCompared {
+                number: refusal.into(),
+                equal: 0,
+            },
+        }
     }
 }
 
 // The numbers of what `read_word` answers.
-fn word_numbers(w: Word) -> UbfaWord
-    ensures { word_struct result ≡ word_as w }
-{
-    match w {
-        Word::Value(value) => UbfaWord {
-            number: 0,
-            value: value,
-        },
-        Word::Refused(number) => UbfaWord {
-            number: number as u32,
-            value: 0,
-        },
+impl From<Result<i64, Refusal>> for UbfaWord {
+    ghost from_gives = { λ answer numbers. word_struct numbers ≡ word_as answer };
+
+    fn from(answer: Result<i64, Refusal>) -> UbfaWord {
+        match answer {
+            Ok(value) => UbfaWord { number: 0, value },
+            Err(refusal) => UbfaWord {
+                number: refusal.into(),
+                value: 0,
+            },
+        }
     }
 }
 
@@ -150,7 +147,7 @@ pub extern "C" fn ubfa_write(
 ) -> UbfaWritten
     ensures { written_struct result scratch.new output.new ≡ write_answer message.now rows.now used root scratch.old output.old }
 {
-    written_numbers(text::write(message, rows, used, Row(root), scratch, output))
+    text::write(message, rows, used, Row(root), scratch, output).into()
 }
 
 // Says whether the plain texts of two rows are the same bytes; the scratch is working memory.
@@ -168,7 +165,7 @@ pub extern "C" fn ubfa_compare(
 ) -> UbfaCompared
     ensures { compared_struct result scratch.new ≡ compare_answer message_a.now rows_a.now used_a root_a message_b.now rows_b.now used_b root_b scratch.old }
 {
-    compared_numbers(comparison::compare(
+    comparison::compare(
         message_a,
         rows_a,
         used_a,
@@ -178,7 +175,8 @@ pub extern "C" fn ubfa_compare(
         used_b,
         Row(root_b),
         scratch,
-    ))
+    )
+    .into()
 }
 
 // Reads word k of the sensor block at a row.
@@ -192,5 +190,5 @@ pub extern "C" fn ubfa_read_word(
 ) -> UbfaWord
     ensures { word_struct result ≡ word_answer message.now rows.now used row k }
 {
-    word_numbers(words::read_word(message, rows, used, Row(row), k))
+    words::read_word(message, rows, used, Row(row), k).into()
 }

@@ -4,6 +4,6 @@ use Rattle.claims.proofs.compare.Goals as goal
 
 pub returns : goal.returns
 returns c = record {
-  answer = c.compare.ensures.answer;
-  compare_touches = demand1_compare _ _ _ _ _ _ _ _ _ _ _ c.compare.ensures.answer c.compare.ensures.never_0;
+  answer = c.compare.ensures;
+  compare_touches = demand1_compare _ _ _ _ _ _ _ _ _ _ _ c.compare.ensures;
 }

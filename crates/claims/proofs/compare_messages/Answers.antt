@@ -1,61 +1,29 @@
 -- `claims::compare_messages` meets its contract: what `decoder::decode` promises, twice, and what `comparison::compare` promises.
-use mathlib.Core.Path.{◌∙◌}
+use mathlib.Core.Path.{sym, ◌∙◌}
+use Rattle.std.proofs.lemmas.Result.{err_from_is_err_and}
+use Rattle.demands.specs.declared.NotCompared.TheVariants.{First, Second}
+use Rattle.demands.proofs.Errors.{replaced, value, error}
 use Rattle.demands.proofs.Demand3.{first-refused, second-refused, both-accepted}
 use Rattle.claims.proofs.compare_messages.Goals as goal
 
-pub shape_of-rows_a-in-Refused : goal.shape_of-rows_a-in-Refused
-shape_of-rows_a-in-Refused c = c.decode-a.auto.rows
+pub returns-in_err-a : goal.returns-in_err-a
+returns-in_err-a c =
+    let exit = err_from_is_err_and c.from_residual.result c.from_residual.ensures.1 in
+    let first = error First _ _ (sym (replaced First _ _ c.map_err.ensures.cases (λ e d made. made)) ∙ c.in_err-a.was) in
+    let told = first-refused _ _ _ _ _ _ _ c.decode.ensures _ first.1.0 in
+    record { value = rw (exit.1, exit.2, first.1.1) told.0; buffers_after = told.1 }
 
-pub shape_of-stack-in-Refused : goal.shape_of-stack-in-Refused
-shape_of-stack-in-Refused c = c.decode-a.auto.stack
+pub returns-in_err-b : goal.returns-in_err-b
+returns-in_err-b c =
+    let exit = err_from_is_err_and c.from_residual-in_err-b.result c.from_residual-in_err-b.ensures.1 in
+    let first = value First _ _ (sym (replaced First _ _ c.map_err.ensures.cases (λ e d made. made)) ∙ c.in_ok-a.was) in
+    let second = error Second _ _ (sym (replaced Second _ _ c.map_err-2.ensures.cases (λ e d made. made)) ∙ c.in_err-b.was) in
+    let told = second-refused _ _ _ _ _ _ _ c.decode.ensures _ first _ _ c.decode-2.ensures _ second.1.0 in
+    record { value = rw (exit.1, exit.2, second.1.1) told.0; buffers_after = told.1 }
 
-pub shape_of-marks-in-Refused : goal.shape_of-marks-in-Refused
-shape_of-marks-in-Refused c = c.decode-a.auto.marks
-
-pub shape_of-registers-in-Refused : goal.shape_of-registers-in-Refused
-shape_of-registers-in-Refused c = c.decode-a.auto.registers
-
-pub returns-in-Refused : goal.returns-in-Refused
-returns-in-Refused c =
-    let all = first-refused _ _ _ _ _ _ _ c.decode-a.ensures _ _ c.in-Refused.is in
-    record { value = all.0; buffers_after = all.1 }
-
-pub shape_of-rows_a-in-Refused-b : goal.shape_of-rows_a-in-Refused-b
-shape_of-rows_a-in-Refused-b c = c.decode-a.auto.rows
-
-pub shape_of-rows_b-in-Refused-b : goal.shape_of-rows_b-in-Refused-b
-shape_of-rows_b-in-Refused-b c = c.decode-b.auto.rows
-
-pub shape_of-stack-in-Refused-b : goal.shape_of-stack-in-Refused-b
-shape_of-stack-in-Refused-b c = c.decode-b.auto.stack ∙ c.decode-a.auto.stack
-
-pub shape_of-marks-in-Refused-b : goal.shape_of-marks-in-Refused-b
-shape_of-marks-in-Refused-b c = c.decode-b.auto.marks ∙ c.decode-a.auto.marks
-
-pub shape_of-registers-in-Refused-b : goal.shape_of-registers-in-Refused-b
-shape_of-registers-in-Refused-b c = c.decode-b.auto.registers ∙ c.decode-a.auto.registers
-
-pub returns-in-Refused-b : goal.returns-in-Refused-b
-returns-in-Refused-b c =
-    let all = second-refused _ _ _ _ _ _ _ c.decode-a.ensures _ _ _ c.in-Accepted.is _ _ c.decode-b.ensures _ _ c.in-Refused-b.is in
-    record { value = all.0; buffers_after = all.1 }
-
-pub shape_of-rows_a-in-Accepted-b : goal.shape_of-rows_a-in-Accepted-b
-shape_of-rows_a-in-Accepted-b c = c.decode-a.auto.rows
-
-pub shape_of-rows_b-in-Accepted-b : goal.shape_of-rows_b-in-Accepted-b
-shape_of-rows_b-in-Accepted-b c = c.decode-b.auto.rows
-
-pub shape_of-stack-in-Accepted-b : goal.shape_of-stack-in-Accepted-b
-shape_of-stack-in-Accepted-b c = c.decode-b.auto.stack ∙ c.decode-a.auto.stack
-
-pub shape_of-marks-in-Accepted-b : goal.shape_of-marks-in-Accepted-b
-shape_of-marks-in-Accepted-b c = c.decode-b.auto.marks ∙ c.decode-a.auto.marks
-
-pub shape_of-registers-in-Accepted-b : goal.shape_of-registers-in-Accepted-b
-shape_of-registers-in-Accepted-b c = c.decode-b.auto.registers ∙ c.decode-a.auto.registers
-
-pub returns-in-Accepted-b : goal.returns-in-Accepted-b
-returns-in-Accepted-b c =
-    let all = both-accepted _ _ _ _ _ _ _ c.decode-a.ensures _ _ _ c.in-Accepted.is _ _ c.decode-b.ensures _ _ _ c.in-Accepted-b.is _ _ c.compare.ensures.answer c.compare.ensures.never_0 _ c.verdict_of.ensures in
-    record { value = all.0; buffers_after = all.1 }
+pub returns : goal.returns
+returns c =
+    let first = value First _ _ (sym (replaced First _ _ c.map_err.ensures.cases (λ e d made. made)) ∙ c.in_ok-a.was) in
+    let second = value Second _ _ (sym (replaced Second _ _ c.map_err-2.ensures.cases (λ e d made. made)) ∙ c.in_ok-b.was) in
+    let told = both-accepted _ _ _ _ _ _ _ c.decode.ensures _ first _ _ c.decode-2.ensures _ second _ _ c.compare.ensures in
+    record { value = rw c.or.ensures told.0; buffers_after = told.1 }

@@ -7,15 +7,15 @@ use Rattle.ubfa.proofs.Places.{consumed-fits, place-fits}
 use Rattle.ubfa.proofs.decoded_numbers.Goals as goal
 
 pub overflow_cast-result : goal.overflow_cast-result
-overflow_cast-result c = consumed-fits _ _ _ _ c.in-Accepted.is c.requires
+overflow_cast-result c = consumed-fits _ _ c.in-Ok.is c.requires
 
-pub overflow_cast-result-in-Refused-2 : goal.overflow_cast-result-in-Refused-2
-overflow_cast-result-in-Refused-2 c = place-fits _ _ _ c.in-Refused.is c.requires
+pub overflow_cast-result-in-Err : goal.overflow_cast-result-in-Err
+overflow_cast-result-in-Err c = place-fits _ _ c.in-Err.is c.requires
 
-pub returns-in-Accepted : goal.returns-in-Accepted
+pub returns-in-Ok : goal.returns-in-Ok
 unfolding decoded_struct decoded_as
-returns-in-Accepted c t = rw c.in-Accepted.is refl
+returns-in-Ok c t = rw c.in-Ok.is refl
 
-pub returns-in-Refused : goal.returns-in-Refused
+pub returns-in-Err : goal.returns-in-Err
 unfolding decoded_struct decoded_as decode_refusal
-returns-in-Refused c t = rw c.in-Refused.is refl
+returns-in-Err c t = rw (c.in-Err.is, c.into.ensures) refl
