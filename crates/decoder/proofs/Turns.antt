@@ -17,8 +17,7 @@ use Rattle.format.specs.Machine.{Machine, Limits, Step, Outcome, Result, refuse,
 use Rattle.format.specs.Rows.{row_values, row_room, rows_of, words_of}
 use Rattle.format.specs.Answer.{Tables, zeroed, limits_of, rows_in, SameLengths}
 use Rattle.format.specs.Number.{number_of}
-use Rattle.format.specs.declared.Offset.{Offset}
-use Rattle.format.specs.declared.refusal.Refusal.{Refusal}
+use Rattle.format.specs.declared.refusal.Refused.{Refused}
 use Rattle.format.specs.declared.Row.{Row as RowNumber}
 use Rattle.format.proofs.Items.{lex-ok}
 use Rattle.format.proofs.Moves as Mv
@@ -29,7 +28,8 @@ use Rattle.format.proofs.TableRows.{length-rows}
 use Rattle.table.specs.Words.{last_first}
 use Rattle.table.proofs.Rows.{length-last_first, get_d_zeros}
 use Rattle.machine.specs.declared.state.State.{State}
-use Rattle.machine.specs.declared.state.Answer.TheVariants.{More, Done, Refused}
+use Rattle.std.specs.Prelude.{Ok, Err}
+use Rattle.std.specs.declared.ops.ControlFlow.TheVariants.{Continue, Break}
 use Rattle.machine.specs.Held.{Ready, register_in, machine_of, turn, after, limited, taken}
 use Rattle.decoder.proofs.Within.{Within, skipped}
 
@@ -84,22 +84,22 @@ record Went (t : Tables) (s : State) (t' : Tables) (s' : State) (x : Step row_va
   registers : register_in t'.registers ≡ machine.registers
   rows : rows_in t'.rows (rows_of s'.next.0 t'.rows) ≡ rows_in t.rows machine.memory
 
-goes_on : (t : Tables) (s : State) (t' : Tables) (s' : State) (x : Step row_values) → turn (More s') t' ≡ after t s x → Went t s t' s' x
+goes_on : (t : Tables) (s : State) (t' : Tables) (s' : State) (x : Step row_values) → turn (Ok (Continue s')) t' ≡ after t s x → Went t s t' s' x
 unfolding turn after
 goes_on t s t' s' (refuse n p) e = let z : ◌≡◌ {A = ℕ} 0 1 = cc in absurd (omega arith)
 goes_on t s t' s' (finish v) e = let z : ◌≡◌ {A = ℕ} 0 1 = cc in absurd (omega arith)
 goes_on t s t' s' (go k w m) e = record { skip = k; made = w; machine = m; is = refl; at = cc; used = cc; stack = cc; marks = cc; registers = cc; rows = cc }
 
-stops_at : (t : Tables) (s : State) (t' : Tables) (n : Refusal) (p : Offset) (x : Step row_values) → turn (Refused n p) t' ≡ after t s x → x ≡ refuse (number_of n) p.0
+stops_at : (t : Tables) (s : State) (t' : Tables) (r : Refused) (x : Step row_values) → turn (Err r) t' ≡ after t s x → x ≡ refuse (number_of r.refusal) r.place.0
 unfolding turn after
-stops_at t s t' n p (refuse n' p') e =
-    let number : number_of n ≡ n' = cc in
-    let place : p.0 ≡ p' = cc in
+stops_at t s t' r (refuse n p) e =
+    let number : number_of r.refusal ≡ n = cc in
+    let place : r.place.0 ≡ p = cc in
     rw (number, place) refl
-stops_at t s t' n p (finish v) e = let z : ◌≡◌ {A = ℕ} 0 1 = cc in absurd (omega arith)
-stops_at t s t' n p (go k w m) e = let z : ◌≡◌ {A = ℕ} 0 1 = cc in absurd (omega arith)
+stops_at t s t' r (finish v) e = let z : ◌≡◌ {A = ℕ} 0 1 = cc in absurd (omega arith)
+stops_at t s t' r (go k w m) e = let z : ◌≡◌ {A = ℕ} 0 1 = cc in absurd (omega arith)
 
-ends_with : (t : Tables) (s : State) (t' : Tables) (root : RowNumber) (x : Step row_values) → turn (Done root) t' ≡ after t s x → (x ≡ finish root.0) × (t' ≡ t)
+ends_with : (t : Tables) (s : State) (t' : Tables) (root : RowNumber) (x : Step row_values) → turn (Ok (Break root)) t' ≡ after t s x → (x ≡ finish root.0) × (t' ≡ t)
 unfolding turn after
 ends_with t s t' root (refuse n p) e = let z : ◌≡◌ {A = ℕ} 0 1 = cc in absurd (omega arith)
 ends_with t s t' root (finish v) e =
@@ -137,11 +137,11 @@ module _ (message : List ℕ) (t t' : Tables) (same : SameLengths t t') (s : Sta
   abbrev pub ran : Outcome (Result row_values)
   ran = run_from row_values limits (drop s.at.0 message) 0 s.at.0 s.next.0 (machine_of t s)
 
-  pub refuses : (n : Refusal) (p : Offset) → turn (Refused n p) t' ≡ taken t s rest (lex b rest) → ran ≡ refused (number_of n) p.0
+  pub refuses : (r : Refused) → turn (Err r) t' ≡ taken t s rest (lex b rest) → ran ≡ refused (number_of r.refusal) r.place.0
   unfolding taken limited run_from follow
-  refuses n p e = rw (here, stops_at t s t' n p (bounded row_values limits s.at.0 s.next.0 stepped) e) refl
+  refuses r e = rw (here, stops_at t s t' r (bounded row_values limits s.at.0 s.next.0 stepped) e) refl
 
-  pub accepts : (root : RowNumber) → turn (Done root) t' ≡ taken t s rest (lex b rest)
+  pub accepts : (root : RowNumber) → turn (Ok (Break root)) t' ≡ taken t s rest (lex b rest)
       → (ran ≡ accepted (suc s.at.0) (record { used = s.next.0; root = root.0; memory = (machine_of t s).memory })) × (t'.rows ≡ t.rows)
   unfolding taken limited run_from follow
   accepts root e =
@@ -217,7 +217,7 @@ module _ (message : List ℕ) (t t' : Tables) (same : SameLengths t t') (s : Sta
               (skipped limits on.skip rest (suc s.at.0) (s.next.0 + on.made) on.machine skip-inside);
         }
 
-  pub goes_after : (s' : State) → turn (More s') t' ≡ taken t s rest (lex b rest) → After s'
+  pub goes_after : (s' : State) → turn (Ok (Continue s')) t' ≡ taken t s rest (lex b rest) → After s'
   unfolding taken limited
   goes_after s' e = after_on s' (goes_on t s t' s' _ e)
 

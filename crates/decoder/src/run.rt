@@ -9,7 +9,8 @@ ghost use Rattle.decoder.specs.Run.{left_as, left_by};
 use crate::Accepted;
 use format::refusal::{Refusal, Refused};
 use format::{Depth, Offset, Row, class};
-use machine::state::{Answer, State};
+use machine::state::State;
+use std::ops::ControlFlow;
 
 // Items from left to right until the message ends or is refused.
 pub(crate) fn run(
@@ -30,32 +31,24 @@ pub(crate) fn run(
         depth: Depth(0),
         marks: 0,
     };
-    loop {
-        let i = s.at.0;
-        let next = s.next;
-        if message.len() <= i {
-            return Err(Refused {
-                refusal: Refusal::Cut,
-                place: Offset(message.len()),
-            });
-        }
-        let b = message[i];
-        let a = step::step(&classes, message, rows, stack, marks, registers, s, b);
-        match a {
-            Answer::More(after) => {
+    while let Some(&b) = message.get(s.at.0) {
+        let next = step::step(&classes, message, rows, stack, marks, registers, s, b)?;
+        match next {
+            ControlFlow::Continue(after) => {
                 s = after;
             }
-            Answer::Done(root) => {
+            ControlFlow::Break(root) => {
                 let accepted = Accepted {
-                    consumed: i + 1,
+                    consumed: s.at.0 + 1,
                     root,
-                    used: next.0,
+                    used: s.next.0,
                 };
                 return Ok(accepted);
             }
-            Answer::Refused(refusal, place) => {
-                return Err(Refused { refusal, place });
-            }
         }
     }
+    Err(Refused {
+        refusal: Refusal::Cut,
+        place: Offset(message.len()),
+    })
 }

@@ -5,8 +5,8 @@ use Rattle.format.specs.Answer.{tables}
 use Rattle.decoder.proofs.Loop.{Going}
 use Rattle.decoder.proofs.run.run.Given as goal
 
-abbrev pub invariant-loop-classes : goal.invariant-loop-classes
-invariant-loop-classes l = Going l.message (tables l.initial.rows l.initial.stack l.initial.marks l.initial.registers) (tables l.rows l.stack l.marks l.registers) l.s
+abbrev pub invariant-loop-b : goal.invariant-loop-b
+invariant-loop-b l = Going l.message (tables l.initial.rows l.initial.stack l.initial.marks l.initial.registers) (tables l.rows l.stack l.marks l.registers) l.s
 
-abbrev pub decreases-loop-classes : goal.decreases-loop-classes
-decreases-loop-classes l = length l.message - l.s.at.0
+abbrev pub decreases-loop-b : goal.decreases-loop-b
+decreases-loop-b l = length l.message - l.s.at.0
