@@ -2,8 +2,8 @@
 #![tactic(auto)]
 
 use crate::input::InputError;
-use crate::respond::Response;
-use format::{Offset, refusal};
+use format::Offset;
+use format::refusal::{Refusal, Refused};
 use std::io;
 
 mod input;
@@ -14,20 +14,15 @@ const MESSAGE_BYTES: usize = 16384;
 
 const OUTPUT_BYTES: usize = 16384;
 
-// The line of a refusal.
-fn print_refusal(rt: &impl Print, number: u8, place: Offset) -> io::Result<()> {
-    println!(rt; "refused {number} at {}", place.0)
-}
-
 // The plain text of a message, or its refusal.
 fn print_answer(rt: &impl Print, message: &[u8]) -> io::Result<()> {
     let mut output = [0u8; OUTPUT_BYTES];
     match respond::respond(message, &mut output) {
-        Response::Text(n) => {
+        Ok(n) => {
             rt.write_all(&output[..n])?;
             println!(rt)
         }
-        Response::Refused(number, place) => print_refusal(rt, number, place),
+        Err(refused) => println!(rt; "{refused}"),
     }
 }
 
@@ -47,7 +42,11 @@ fn main(rt: HostRuntime) {
     match input::read_message(&mut rt.stdin(), &mut message) {
         Ok(n) => finish(&rt, print_answer(&rt, &message[..n])),
         Err(InputError::TooLong) => {
-            finish(&rt, print_refusal(&rt, refusal::OVER_BOUND, Offset(0)));
+            let refused = Refused {
+                refusal: Refusal::OverBound,
+                place: Offset(0),
+            };
+            finish(&rt, println!(&rt; "{refused}"));
         }
         Err(InputError::Failed) => complain(&rt, "cannot read standard input"),
     }
