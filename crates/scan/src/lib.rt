@@ -53,13 +53,16 @@ fn plain_until(message: &[u8], from: usize, end: usize, quote: u8) -> usize
     requires { (from ≤ end) × (end ≤ length message.now) }
     ensures { Plain quote message.now from result × (result ≤ end) × (result < end → is_mark quote (get_or message.now result 0) ≡ true) }
 {
-    for i in from..end {
+    // no `for`: with it the compiler takes five instructions in place of three for a byte of a tag's name
+    let mut i = from;
+    while i < end {
         let b = message[i];
         if b == quote || b == byte::BACKSLASH {
             return i;
         }
+        i += 1;
     }
-    end
+    i
 }
 
 // The first place from `from` on and before `end` at which the quote or a backslash stands, or `end`. It looks at blocks from the first byte on.

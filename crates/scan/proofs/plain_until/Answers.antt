@@ -7,7 +7,9 @@ use Rattle.scan.proofs.plain_until.Goals as goal
 
 pub returns-then-b-quote : goal.returns-then-b-quote
 unfolding is_mark
-returns-then-b-quote c = (c.loop-i.invariant, omega arith, λ h. grind (arith, nat_tests))
+returns-then-b-quote c = (c.loop-i.invariant.0, omega arith, λ h. grind (arith, nat_tests))
 
 pub loop-i-preserved : goal.loop-i-preserved
-loop-i-preserved c = laws.next _ _ c.loop-i.invariant (laws.no_mark _ _ c.if-b-quote.false c.if-b-eq-BACKSLASH.false)
+loop-i-preserved c =
+    let plain = laws.no_mark _ _ c.if-b-quote.false c.if-b-eq-BACKSLASH.false in
+    (laws.next _ _ c.loop-i.invariant.0 plain, omega arith)
