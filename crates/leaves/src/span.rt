@@ -33,8 +33,12 @@ fn put_by_blocks(message: &[u8], from: usize, n: usize, output: &mut [u8], at: u
     ensures { output.new ≡ sets output.old at (span_of message.now from n) }
 {
     let last = n - BLOCK;
-    for i in (0..last).step_by(BLOCK) {
+    // no `step_by`: with it a text of strings of 400 bytes takes 25 % more instructions to write
+    let mut i = 0;
+    while i < last {
+        let next = i + BLOCK;
         store_block(output, at + i, load_block(message, from + i));
+        i = next;
     }
     store_block(output, at + last, load_block(message, from + last));
 }
