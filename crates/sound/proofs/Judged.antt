@@ -67,7 +67,9 @@ module _ (message words : List ℕ) (used : ℕ) where
       pub rest-same : sound_rest r.kind (row_at (take i rows) r.second).kind ≡ sound_rest r.kind (row_in words r.second).kind
       unfolding row_at
       rest-same =
-          let e : r.second < i → row_at (take i rows) r.second ≡ row_in words r.second = λ l. get_or-take i rows r.second (row 0 0 0 0) l ∙ sym (row_of words used r.second fits (omega arith)) in
+          let e : r.second < i → row_at (take i rows) r.second ≡ row_in words r.second =
+          λ l. get_or-take i rows r.second (row 0 0 0 0) l ∙ sym (row_of words used r.second fits (omega arith))
+          in
           rest-kind message i r (subst T (sym sound) tt) _ _ (λ l. ap (λ (y : Row). y.kind) (e l))
 
       rest_at : from i ≡ (sound_rest r.kind (row_in words r.second).kind && from (i + 1))

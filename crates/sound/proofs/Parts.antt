@@ -1,15 +1,13 @@
 -- A row judged in two parts: by its words, then by its text.
-use Prim.Native.Nat.{ℕ, ◌≤◌, ◌<◌}
+use Prim.Native.Nat.{ℕ}
 use Prim.Native.Char.{code}
 use mathlib.Core.Path.{◌≡◌, refl}
 use mathlib.Core.Bool.{Bool, true, false, ◌&&◌, and-true}
 use mathlib.Core.List.{List}
-use native.Mathlib.Omega.{arith}
 use lib.Dec.{eqb, ltb}
-use borrow.Author.Tests.{ne_eqb}
-use Rattle.format.specs.Rows.{Row, span_of, atom_kind, string_kind, tag_kind}
+use Rattle.format.specs.Rows.{Row, span_of}
 use Rattle.format.specs.Sound.{spelled, in_slice, spelled_in, sound_row}
-use Rattle.format.proofs.Tests.{either, None, is_none}
+use Rattle.format.proofs.Tests.{either}
 use Rattle.sound.specs.Parts.{sound_words, quote_of, sound_text}
 
 -- a span's test may be made twice
@@ -55,15 +53,3 @@ module _ (message : List ℕ) (i : ℕ) (r : Row) where
 
     pub both-pass : sound_text message r ≡ true → sound_row message i r ≡ true
     both-pass e = rw (in_parts, words, e)
-
--- a kind that is none of the nine
-pub no_kind : (message : List ℕ) (i : ℕ) (r : Row) → None 1 9 r.kind → sound_words message i r ≡ false
-unfolding sound_words
-no_kind message i r h =
-    let none : (j : ℕ) → 1 ≤ j → j < 10 → eqb r.kind j ≡ false = is_none 1 9 r.kind h in
-    rw (none 1 (omega arith) (omega arith), none 2 (omega arith) (omega arith), none 3 (omega arith) (omega arith), none 4 (omega arith) (omega arith), none 5 (omega arith) (omega arith), none 6 (omega arith) (omega arith), none 7 (omega arith) (omega arith), none 8 (omega arith) (omega arith), none 9 (omega arith) (omega arith))
-
--- a kind whose rows have no text
-pub no_quote : (k : ℕ) → (k ≡ atom_kind → ⊥) → (k ≡ string_kind → ⊥) → (k ≡ tag_kind → ⊥) → quote_of k ≡ 0
-unfolding quote_of
-no_quote k a b c = rw (ne_eqb _ _ a, ne_eqb _ _ b, ne_eqb _ _ c)

@@ -11,19 +11,13 @@ use lib.Seq.{drop-cons, take-length}
 use borrow.Author.Tests.{eq-eqb, ne_eqb}
 use Rattle.scan.specs.Plain.{is_mark, plain_end}
 use Rattle.format.specs.Rows.{span_of}
-use Rattle.format.specs.Sound.{spelled, in_slice, spelled_in}
+use Rattle.format.specs.Sound.{spelled}
 use Rattle.scan.proofs.Runs.{no_quote, no_backslash, is-backslash, along, within, plain, stops}
 
 -- the byte after a backslash is judged by itself
 after-backslash : (quote c : ℕ) (r : List ℕ) → spelled quote true (c ∷ r) ≡ (spelled quote true (c ∷ []) && spelled quote false r)
 unfolding spelled
 after-backslash quote c r = rw and-true
-
--- a span inside the slice, by its end
-pub by_end : (message : List ℕ) (quote start n : ℕ) → in_slice message start n ≡ true
-    → spelled quote false (span_of message start ((start + n) - start)) ≡ spelled_in message quote start n
-unfolding spelled_in
-by_end message quote start n h = let e : (start + n) - start ≡ n = omega arith in rw (h, e)
 
 module _ (message : List ℕ) (quote end : ℕ) where
   -- whether the bytes from i up to `end` are spelled as between two quotes

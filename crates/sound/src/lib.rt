@@ -11,6 +11,7 @@ use format::{Row, byte, kind};
 use table::{RowWords, read_row, row_room};
 
 // Whether a span lies inside the slice. Its end is counted in 64 bits, where no sum of two words wraps.
+#[tactic(auto, unfolding(format::specs::Sound::in_slice))]
 fn in_slice(message: &[u8], start: u32, n: u32) -> bool
     ensures { result ≡ in_slice message.now start n }
 {
@@ -18,19 +19,18 @@ fn in_slice(message: &[u8], start: u32, n: u32) -> bool
 }
 
 // Whether a byte may stand after a backslash.
+#[tactic(auto, unfolding(format::specs::Sound::spelled))]
 fn may_follow(b: u8, quote: u8) -> bool
     ensures { result ≡ spelled quote true (b ∷ []) }
 {
-    if b == byte::BACKSLASH {
-        return true;
-    }
-    b == quote
+    b == byte::BACKSLASH || b == quote
 }
 
 // Whether bytes may stand between two quotes: no bad escape, and no quote that would close them.
 fn is_spelled(text: &[u8], quote: u8) -> bool
     ensures { result ≡ spelled quote false text.now }
 {
+    // a turn passes a run and the byte after a backslash, so that no `for` gives its places
     let mut i = 0;
     while i < text.len() {
         let p = scan::plain_end_by_blocks(text, i, text.len(), quote);
@@ -41,10 +41,7 @@ fn is_spelled(text: &[u8], quote: u8) -> bool
             return false;
         }
         let next = p + 1;
-        if text.len() <= next {
-            return false;
-        }
-        if !may_follow(text[next], quote) {
+        if text.len() <= next || !may_follow(text[next], quote) {
             return false;
         }
         i = next + 1;
@@ -53,78 +50,53 @@ fn is_spelled(text: &[u8], quote: u8) -> bool
 }
 
 // Whether a span lies inside the slice and may stand between two quotes.
+#[tactic(auto, unfolding(format::specs::Sound::spelled_in, format::specs::Sound::in_slice))]
 fn spelled_in(message: &[u8], quote: u8, start: u32, n: u32) -> bool
     ensures { result ≡ spelled_in message.now quote start n }
 {
-    if !in_slice(message, start, n) {
-        return false;
-    }
     let from = start as usize;
-    let end = from + (n as usize);
-    is_spelled(&message[from..end], quote)
+    in_slice(message, start, n) && is_spelled(&message[from..from + n as usize], quote)
 }
 
 // Whether an atom, a string or a binary is sound by its words: its spare word is zero, and its span lies inside the slice.
 fn sound_span(message: &[u8], words: RowWords) -> bool
     ensures { result ≡ (eqb words.third 0 && in_slice message.now words.first words.second) }
 {
-    if words.third != 0 {
-        return false;
-    }
-    in_slice(message, words.first, words.second)
+    words.third == 0 && in_slice(message, words.first, words.second)
 }
 
 // Whether an empty list or a tuple's end is sound: its words are all spare.
 fn sound_end(words: RowWords) -> bool
     ensures { result ≡ (eqb words.first 0 && eqb words.second 0 && eqb words.third 0) }
 {
-    if words.first != 0 {
-        return false;
-    }
-    if words.second != 0 {
-        return false;
-    }
-    words.third == 0
+    words.first == 0 && words.second == 0 && words.third == 0
 }
 
 // Whether row n, a list cell or a tuple's field, is sound by its own words: its spare word is zero, and it refers to two earlier rows.
 fn sound_cell(n: Row, words: RowWords) -> bool
     ensures { result ≡ (eqb words.third 0 && ltb words.first n.0 && ltb words.second n.0) }
 {
-    if words.third != 0 {
-        return false;
-    }
-    if n.0 <= words.first {
-        return false;
-    }
-    words.second < n.0
+    words.third == 0 && words.first < n.0 && words.second < n.0
 }
 
 // Whether row n is sound by its words: its kind is known, its spare words are zero, its span lies in the slice, and it refers to earlier rows only.
+#[tactic(auto, unfolding(crate::specs::Parts::sound_words))]
 pub fn sound_words(message: &[u8], n: Row, words: RowWords) -> bool
     ensures { result ≡ sound_words message.now n.0 (row_of words) }
 {
     let k = words.kind;
     match k {
         kind::INTEGER => words.third == 0,
-        kind::ATOM => sound_span(message, words),
-        kind::STRING => sound_span(message, words),
-        kind::BINARY => sound_span(message, words),
-        kind::NIL => sound_end(words),
-        kind::CONS => sound_cell(n, words),
-        kind::END => sound_end(words),
-        kind::FIELD => sound_cell(n, words),
-        kind::TAG => {
-            if n.0 <= words.third {
-                return false;
-            }
-            in_slice(message, words.first, words.second)
-        }
+        kind::ATOM | kind::STRING | kind::BINARY => sound_span(message, words),
+        kind::NIL | kind::END => sound_end(words),
+        kind::CONS | kind::FIELD => sound_cell(n, words),
+        kind::TAG => words.third < n.0 && in_slice(message, words.first, words.second),
         _ => false,
     }
 }
 
 // The quote of the texts of a kind; 0 for a kind that has none.
+#[tactic(auto, unfolding(crate::specs::Parts::quote_of))]
 fn quote_of(k: u32) -> u8
     ensures { result ≡ quote_of k }
 {
@@ -138,38 +110,33 @@ fn quote_of(k: u32) -> u8
 
 // Whether a row is sound by its text: that of an atom, a string or a tag lies inside the slice, as it may be spelled there. Asked apart from its words, since a
 // function for both would be too large for the compiler to put into the loops over rows.
+#[tactic(auto, unfolding(crate::specs::Parts::sound_text))]
 pub fn sound_text(message: &[u8], words: RowWords) -> bool
     ensures { result ≡ sound_text message.now (row_of words) }
 {
     let quote = quote_of(words.kind);
-    if quote == 0 {
-        return true;
-    }
-    spelled_in(message, quote, words.first, words.second)
+    quote == 0 || spelled_in(message, quote, words.first, words.second)
 }
 
 // Whether a row of this kind is a list.
+#[tactic(auto, unfolding(format::specs::Rows::is_list_kind))]
 fn is_list(k: u32) -> bool
     ensures { result ≡ is_list_kind k }
 {
-    if k == kind::NIL {
-        return true;
-    }
-    k == kind::CONS
+    matches!(k, kind::NIL | kind::CONS)
 }
 
 // Whether a row of this kind is a tuple, or the rest of one.
+#[tactic(auto, unfolding(format::specs::Rows::is_tuple_kind))]
 fn is_tuple(k: u32) -> bool
     ensures { result ≡ is_tuple_kind k }
 {
-    if k == kind::END {
-        return true;
-    }
-    k == kind::FIELD
+    matches!(k, kind::END | kind::FIELD)
 }
 
 // Whether a row of one kind may have a rest of the other: a list cell a list, a tuple's field a tuple. No other row has a rest, so
 // that any will do.
+#[tactic(auto, unfolding(format::specs::Sound::sound_rest))]
 pub fn sound_rest(kind: u32, rest: u32) -> bool
     ensures { result ≡ sound_rest kind rest }
 {
@@ -181,19 +148,20 @@ pub fn sound_rest(kind: u32, rest: u32) -> bool
 }
 
 // Whether a row may have the rest that it refers to. The rest is read only of a list cell or a tuple's field: its row is then there.
+#[tactic(auto, unfolding(format::specs::Sound::sound_rest))]
 pub fn rest_fits(rows: &[u32], words: RowWords) -> bool
     requires { (words.kind ≡ cons_kind → words.second < row_room rows.now) × (words.kind ≡ field_kind → words.second < row_room rows.now) }
     ensures { result ≡ sound_rest words.kind (row_in rows.now words.second).kind }
 {
     let k = words.kind;
     match k {
-        kind::CONS => sound_rest(k, read_row(rows, Row(words.second)).kind),
-        kind::FIELD => sound_rest(k, read_row(rows, Row(words.second)).kind),
+        kind::CONS | kind::FIELD => sound_rest(k, read_row(rows, Row(words.second)).kind),
         _ => true,
     }
 }
 
 // Whether a table has room for the rows claimed.
+#[tactic(auto, unfolding(format::specs::Sound::count_fits))]
 pub fn count_fits(rows: &[u32], used: u32) -> bool
     ensures { result ≡ count_fits rows.now used }
 {
@@ -201,6 +169,7 @@ pub fn count_fits(rows: &[u32], used: u32) -> bool
 }
 
 // Whether the root is among the rows claimed.
+#[tactic(auto, unfolding(format::specs::Sound::root_among))]
 pub fn root_among(used: u32, root: Row) -> bool
     ensures { result ≡ root_among used root.0 }
 {
@@ -212,33 +181,25 @@ fn sound_rows(message: &[u8], rows: &[u32], used: u32) -> bool
     requires { used ≤ row_room rows.now }
     ensures { result ≡ sound_rows message.now (rows_of used rows.now) }
 {
-    let mut i = 0;
-    while i < used {
+    for i in 0..used {
         let words = read_row(rows, Row(i));
-        if !sound_words(message, Row(i), words) {
+        if !sound_words(message, Row(i), words)
+            || !sound_text(message, words)
+            || !rest_fits(rows, words)
+        {
             return false;
         }
-        if !sound_text(message, words) {
-            return false;
-        }
-        if !rest_fits(rows, words) {
-            return false;
-        }
-        i += 1;
     }
     true
 }
 
 // Whether a table is sound; refusal 16 is given exactly where it is not.
+#[tactic(auto, unfolding(format::specs::Sound::sound_table, format::specs::Sound::count_fits))]
 pub fn sound_table(message: &[u8], rows: &[u32], used: u32, root: Row) -> bool
     ensures { result ≡ sound_table message.now rows.now used root.0 }
 {
     // each slice is lent anew, so that the compiler can pass it in registers
-    if !count_fits(&rows[..], used) {
-        return false;
-    }
-    if !root_among(used, root) {
-        return false;
-    }
-    sound_rows(&message[..], &rows[..], used)
+    count_fits(&rows[..], used)
+        && root_among(used, root)
+        && sound_rows(&message[..], &rows[..], used)
 }
