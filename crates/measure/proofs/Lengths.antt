@@ -14,11 +14,11 @@ use Rattle.format.specs.Meaning.{items_of}
 use Rattle.format.specs.Term as T
 use Rattle.format.specs.Term.{Term, Terms, ◌then◌}
 use Rattle.format.specs.Text.{natural_on, between, text_on, items_on, fields_on, plain}
-use Rattle.format.specs.Rows.{Row, row_at, span_of, fields_of, is_list_kind, is_tuple_kind, integer_kind, atom_kind, string_kind, binary_kind, nil_kind, cons_kind, end_kind, field_kind, tag_kind, integer_of_row, rows_of, row_room, term_at}
+use Rattle.format.specs.Rows.{Row, row_at, span_of, fields_of, is_list_kind, is_tuple_kind, nil_kind, cons_kind, end_kind, field_kind, tag_kind, rows_of, row_room, term_at}
 use Rattle.format.specs.Sound.{sound_row, sound_rest, sound_rows}
 use Rattle.format.proofs.Sizes.{text_onto}
 use Rattle.format.proofs.Lists.{length-span}
-use Rattle.format.proofs.Tests.{None, is_none, either}
+use Rattle.format.proofs.Tests.{either}
 use Rattle.format.proofs.TableRows as R
 use Rattle.format.proofs.TableRows.{length-rows, judged}
 use Rattle.table.specs.Words.{row_in}
@@ -27,50 +27,7 @@ use Rattle.sound.proofs.Judged as J
 use Rattle.measure.specs.Lengths.{text_length, named, below, own_length, total, row_length, longest, capped, length_in, Measured, lengths_after}
 use Rattle.leaves.proofs.Leaves.{length-after, length-between, length-quoted}
 
--- a tag is none of the others
-is-tag : {k : ℕ} → k ≡ tag_kind → None 1 8 k
-is-tag e = ((((((((tt, λ n. omega arith), λ n. omega arith), λ n. omega arith), λ n. omega arith), λ n. omega arith), λ n. omega arith), λ n. omega arith), λ n. omega arith)
-
--- a row's own bytes, by its kind
 module _ (r : Row) where
-  pub own-integer : r.kind ≡ integer_kind → own_length r ≡ text_length (T.int (integer_of_row r))
-  unfolding own_length
-  own-integer k = rw k
-
-  pub own-atom : r.kind ≡ atom_kind → own_length r ≡ r.second + 2
-  unfolding own_length
-  own-atom k = rw k
-
-  pub own-string : r.kind ≡ string_kind → own_length r ≡ r.second + 2
-  unfolding own_length
-  own-string k = rw k
-
-  pub own-binary : r.kind ≡ binary_kind → own_length r ≡ length (natural_on r.second []) + (r.second + 2)
-  unfolding own_length
-  own-binary k = rw k
-
-  pub own-nil : r.kind ≡ nil_kind → own_length r ≡ 1
-  unfolding own_length
-  own-nil k = rw k
-
-  pub own-cons : r.kind ≡ cons_kind → own_length r ≡ 1
-  unfolding own_length
-  own-cons k = rw k
-
-  pub own-end : r.kind ≡ end_kind → own_length r ≡ 2
-  unfolding own_length
-  own-end k = rw k
-
-  pub own_field : r.kind ≡ field_kind → own_length r ≡ 0
-  unfolding own_length
-  own_field k = rw k
-
-  pub own-tag : None 1 8 r.kind → own_length r ≡ r.second + 2
-  unfolding own_length
-  own-tag h =
-      let no : (j : ℕ) → 1 ≤ j → j < 9 → eqb r.kind j ≡ false = is_none 1 8 r.kind h in
-      rw (no 1 (omega arith) (omega arith), no 2 (omega arith) (omega arith), no 3 (omega arith) (omega arith), no 4 (omega arith) (omega arith), no 5 (omega arith) (omega arith), no 6 (omega arith) (omega arith), no 7 (omega arith) (omega arith), no 8 (omega arith) (omega arith))
-
   -- the rows that it names
   pub names-cell : r.kind ≡ cons_kind → named r ≡ r.first ∷ r.second ∷ []
   unfolding named
@@ -91,26 +48,23 @@ module _ (r : Row) where
   -- its length with theirs
   module _ (length_of : ℕ → ℕ) where
     pub cons-length : r.kind ≡ cons_kind → row_length length_of r ≡ length_of r.first + length_of r.second + 1
-    unfolding row_length total
-    cons-length k = rw (names-cell k, own-cons k) (omega arith)
+    unfolding row_length total named own_length
+    cons-length k = rw k (omega arith)
 
     pub field_length : r.kind ≡ field_kind → row_length length_of r ≡ length_of r.first + length_of r.second
-    unfolding row_length total
-    field_length k = rw (names_field k, own_field k) (omega arith)
+    unfolding row_length total named own_length
+    field_length k = rw k (omega arith)
 
     pub tag-length : r.kind ≡ tag_kind → row_length length_of r ≡ length_of r.third + (r.second + 2)
-    unfolding row_length total
-    tag-length k = rw (names-inner k, own-tag (is-tag k)) (omega arith)
+    unfolding row_length total named own_length
+    tag-length k = rw k (omega arith)
 
     -- where it names none
     pub leaf-length : named r ≡ [] → row_length length_of r ≡ own_length r
     unfolding row_length total
     leaf-length e = rw e (omega arith)
 
--- with the rows that it names written out: they are below n, how many there are, and what they stand above
-pub names-below : (r : Row) {names : List ℕ} (n : ℕ) → named r ≡ names → below n (named r) → below n names
-names-below r n e h = rw e at h
-
+-- with the rows that it names written out: how many there are, and what they stand above
 pub names-room : (r : Row) {names : List ℕ} (top : ℕ) {n : ℕ} → named r ≡ names → top + length (named r) ≤ n → top + length names ≤ n
 names-room r top e h = rw e at h
 
@@ -162,7 +116,8 @@ module _ (message : List ℕ) (rows : List Row) (sound : T (sound_rows message r
     unfolding is_list_kind items_of
     list-again h = by (eqb (row_at rows j).kind nil_kind) (eqb (row_at rows j).kind cons_kind) refl refl h
       where
-        by : (a b : Bool) → eqb (row_at rows j).kind nil_kind ≡ a → eqb (row_at rows j).kind cons_kind ≡ b → T (a || b) → T.list (items_of (term j)) ≡ term j
+        by : (a b : Bool) → eqb (row_at rows j).kind nil_kind ≡ a → eqb (row_at rows j).kind cons_kind ≡ b → T (a || b)
+            → T.list (items_of (term j)) ≡ term j
         by true b p q h = rw (R.nil-term message rows j l (eqb-true _ _ p))
         by false true p q h = rw (R.cons-term message rows j l (judged message rows sound j l).own (eqb-true _ _ q))
         by false false p q h = absurd h
@@ -171,7 +126,8 @@ module _ (message : List ℕ) (rows : List Row) (sound : T (sound_rows message r
     unfolding is_tuple_kind fields_of
     tuple-again h = by (eqb (row_at rows j).kind end_kind) (eqb (row_at rows j).kind field_kind) refl refl h
       where
-        by : (a b : Bool) → eqb (row_at rows j).kind end_kind ≡ a → eqb (row_at rows j).kind field_kind ≡ b → T (a || b) → T.tuple (fields_of (term j)) ≡ term j
+        by : (a b : Bool) → eqb (row_at rows j).kind end_kind ≡ a → eqb (row_at rows j).kind field_kind ≡ b → T (a || b)
+            → T.tuple (fields_of (term j)) ≡ term j
         by true b p q h = rw (R.end-term message rows j l (eqb-true _ _ p))
         by false true p q h = rw (R.field_term message rows j l (judged message rows sound j l).own (eqb-true _ _ q))
         by false false p q h = absurd h
@@ -194,8 +150,8 @@ module _ (message : List ℕ) (rows : List Row) (sound : T (sound_rows message r
     Right = text_length (term i) ≡ row_length (λ j. text_length (term j)) r
 
     -- a row that names no other
-    leaf : {n : ℕ} (x : Term) → term i ≡ x → named r ≡ [] → own_length r ≡ n → text_length x ≡ n → Right
-    leaf x e none own q = ap text_length e ∙ q ∙ sym (leaf-length r _ none ∙ own)
+    leaf : (x : Term) → term i ≡ x → named r ≡ [] → own_length r ≡ text_length x → Right
+    leaf x e none own = ap text_length e ∙ sym (leaf-length r _ none ∙ own)
 
     quoted : (quote : ℕ) → r.first + r.second ≤ length message → length (between quote span []) ≡ r.second + 2
     quoted = length-quoted message r.first r.second
@@ -227,16 +183,16 @@ module _ (message : List ℕ) (rows : List Row) (sound : T (sound_rows message r
 
     -- its length is that of its text
     pub right : Right
-    unfolding named text_on
+    unfolding named own_length text_on
     right =
         R.by_kind message i r s
-        (λ k. leaf _ (R.integer-term message rows i l k) (rw k) (own-integer r k) refl)
-        (λ k. leaf _ (R.atom-term message rows i l k) (rw k) (own-atom r k) (quoted (code "'") (R.atom-inside message i r s k)))
-        (λ k. leaf _ (R.string-term message rows i l k) (rw k) (own-string r k) (quoted (code "\"") (R.string-inside message i r s k)))
-        (λ k. leaf _ (R.binary-term message rows i l k) (rw k) (own-binary r k) (counted (R.binary-inside message i r s k)))
-        (λ k. leaf _ (R.nil-term message rows i l k) (rw k) (own-nil r k) refl)
+        (λ k. leaf _ (R.integer-term message rows i l k) (rw k) (rw k refl))
+        (λ k. leaf _ (R.atom-term message rows i l k) (rw k) (rw k (sym (quoted (code "'") (R.atom-inside message i r s k)))))
+        (λ k. leaf _ (R.string-term message rows i l k) (rw k) (rw k (sym (quoted (code "\"") (R.string-inside message i r s k)))))
+        (λ k. leaf _ (R.binary-term message rows i l k) (rw k) (rw k (sym (counted (R.binary-inside message i r s k)))))
+        (λ k. leaf _ (R.nil-term message rows i l k) (rw k) (rw k))
         row_cons
-        (λ k. leaf _ (R.end-term message rows i l k) (rw k) (own-end r k) refl)
+        (λ k. leaf _ (R.end-term message rows i l k) (rw k) (rw k))
         row_field
         row-tag
 
@@ -264,7 +220,8 @@ module _ (message words : List ℕ) (used : ℕ) where
 
   module _ (fits : used ≤ row_room words) (i : ℕ) (h : i < used) (r : Row) (own : r ≡ row_in words i) (lengths : List ℕ) where
     from_row : from i lengths
-        ≡ cond (sound_row message i r && sound_rest r.kind (row_at (take i rows') r.second).kind) (from (i + 1) (set lengths i (capped (row_length (length_in lengths) r)))) lengths
+        ≡ cond (sound_row message i r && sound_rest r.kind (row_at (take i rows') r.second).kind)
+        (from (i + 1) (set lengths i (capped (row_length (length_in lengths) r)))) lengths
     unfolding lengths_after
     from_row = rw (J.rows-from message words used fits i h r own, J.rows_before message words used fits i h r own, J.count-before message words used fits i h r own)
 
@@ -275,7 +232,8 @@ module _ (message words : List ℕ) (used : ℕ) where
       from-rest_fails : sound_rest r.kind (row_in words r.second).kind ≡ false → from i lengths ≡ lengths
       from-rest_fails e = from_row ∙ rw (sound, J.rest-same message words used fits i h r own sound, e)
 
-      from-passes : sound_rest r.kind (row_in words r.second).kind ≡ true → from i lengths ≡ from (i + 1) (set lengths i (capped (row_length (length_in lengths) r)))
+      from-passes : sound_rest r.kind (row_in words r.second).kind ≡ true
+          → from i lengths ≡ from (i + 1) (set lengths i (capped (row_length (length_in lengths) r)))
       from-passes e = from_row ∙ rw (sound, J.rest-same message words used fits i h r own sound, e)
 
   -- the rows before row i are judged, and measured where all rows are sound
@@ -292,7 +250,9 @@ module _ (message words : List ℕ) (used : ℕ) where
   -- what is promised of an answer and the lengths left
   abbrev Judged : Bool → List ℕ → List ℕ → Type 0
   Judged answer lengths₀ lengths =
-      (answer ≡ sound_rows message rows') × ((T (sound_rows message rows') → Measured message rows' lengths used) × (lengths ≡ lengths_after message [] rows' lengths₀))
+      (answer ≡ sound_rows message rows')
+      × ((T (sound_rows message rows') → Measured message rows' lengths used)
+      × (lengths ≡ lengths_after message [] rows' lengths₀))
 
   unsound : (lengths₀ lengths : List ℕ) → false ≡ sound_rows message rows' → lengths ≡ from 0 lengths₀ → Judged false lengths₀ lengths
   unsound lengths₀ lengths e q = (e, (λ s j l. absurd (subst T (sym e) s), q))
@@ -337,13 +297,17 @@ module _ (message words : List ℕ) (used : ℕ) where
             unsound lengths₀ lengths (sym (J.rest_fails message words used m.fits i within r read own e) ∙ m.judged_to)
             (sym (from-rest_fails m.fits i within r read lengths own e) ∙ m.after)
 
-        pub next_row : sound_rest r.kind (row_in words r.second).kind ≡ true → {n word : ℕ} → n ≡ row_length (length_in lengths) r → word ≡ capped n → Measuring lengths₀ (set lengths i word) (i + 1)
+        pub next_row : sound_rest r.kind (row_in words r.second).kind ≡ true → {n word : ℕ} → n ≡ row_length (length_in lengths) r
+            → word ≡ capped n → Measuring lengths₀ (set lengths i word) (i + 1)
         next_row rest {n} {word} e w = record {
           fits = m.fits;
           same = length-set lengths i word ∙ m.same;
           after = rw (w, e) (sym (from-passes m.fits i within r read lengths own rest) ∙ m.after);
           judged_to = sym (J.passes message words used m.fits i within r read own rest) ∙ m.judged_to;
-          measured = λ s j l. either j i (λ q. rw q (get_or-set_same lengths i word 0 h ∙ its_own s)) (λ q. get_or-set_other lengths i j word 0 (λ x. omega (arith, eqb-false j i q)) ∙ m.measured s j (omega (arith, eqb-false j i q)));
+          measured = λ s j l.
+              either j i (λ q. rw q (get_or-set_same lengths i word 0 h ∙ its_own s)) (λ q.
+              let other = eqb-false j i q in
+              get_or-set_other lengths i j word 0 other ∙ m.measured s j (omega arith));
         }
           where
             its_own : T (sound_rows message rows') → word ≡ capped (text_length (term_at message rows' i))

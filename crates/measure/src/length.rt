@@ -13,13 +13,11 @@ use table::RowWords;
 pub const LONGEST: u32 = 4294967295;
 
 // A length in a word.
+#[tactic(auto, unfolding(crate::specs::Lengths::capped))]
 pub(crate) fn cap(n: u64) -> u32
     ensures { result ≡ capped n }
 {
-    if (LONGEST as u64) < n {
-        return LONGEST;
-    }
-    n as u32
+    n.min(LONGEST as u64) as u32
 }
 
 // The length of an integer, by the halves of its two's complement: its digits, a minus where it is negative, one blank.
@@ -28,13 +26,11 @@ fn integer_length(high: u32, low: u32) -> u64
 {
     let z = leaf::from_halves(high, low);
     let digits = decimal::digit_count(z.magnitude) as u64;
-    if z.negative {
-        return digits + 2;
-    }
-    digits + 1
+    if z.negative { digits + 2 } else { digits + 1 }
 }
 
 // The length of what is a row's own of its text, without the rows that it names. A cell's rest has the `#` or the braces.
+#[tactic(auto, unfolding(crate::specs::Lengths::own_length, format::specs::Rows::integer_of_row))]
 pub fn own_length(words: RowWords) -> u64
     ensures { result ≡ own_length (row_of words) }
 {
@@ -42,11 +38,9 @@ pub fn own_length(words: RowWords) -> u64
     let n = words.second as u64;
     match k {
         kind::INTEGER => integer_length(words.first, words.second),
-        kind::ATOM => n + 2,
-        kind::STRING => n + 2,
+        kind::ATOM | kind::STRING => n + 2,
         kind::BINARY => (decimal::digit_count(n) as u64) + (n + 2),
-        kind::NIL => 1,
-        kind::CONS => 1,
+        kind::NIL | kind::CONS => 1,
         kind::END => 2,
         kind::FIELD => 0,
         // a tag, the only kind left in a sound table
@@ -64,6 +58,7 @@ fn length_at(lengths: &[u32], row: u32) -> u64
 }
 
 // The length of a row's text. No sum wraps, since each part is a word's.
+#[tactic(auto, unfolding(crate::specs::Lengths::row_length, crate::specs::Lengths::named, crate::specs::Lengths::total, crate::specs::Lengths::own_length))]
 pub(crate) fn row_length(lengths: &[u32], words: RowWords) -> u64
     requires { below (length lengths.now) (named (row_of words)) }
     ensures { result ≡ row_length (length_in lengths.now) (row_of words) }

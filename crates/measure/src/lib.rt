@@ -17,23 +17,17 @@ pub fn judge(message: &[u8], rows: &[u32], lengths: &mut [u32]) -> bool
     ensures measured { T (sound_rows message.now (rows_of (length lengths.old) rows.now)) → Measured message.now (rows_of (length lengths.old) rows.now) lengths.new (length lengths.old) }
     ensures lengths_after { lengths.new ≡ lengths_after message.now [] (rows_of (length lengths.old) rows.now) lengths.old }
 {
-    let mut i = 0;
-    while i < lengths.len() {
-        let next = i + 1;
+    for i in 0..lengths.len() {
         let n = Row(i as u32);
         let words = table::read_row(rows, n);
-        if !sound::sound_words(message, n, words) {
-            return false;
-        }
-        if !sound::sound_text(message, words) {
-            return false;
-        }
-        if !sound::rest_fits(rows, words) {
+        if !sound::sound_words(message, n, words)
+            || !sound::sound_text(message, words)
+            || !sound::rest_fits(rows, words)
+        {
             return false;
         }
         let bytes = length::row_length(lengths, words);
         lengths[i] = length::cap(bytes);
-        i = next;
     }
     true
 }
