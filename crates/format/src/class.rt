@@ -294,12 +294,12 @@ pub fn classes() -> [Class; 256]
     CLASSES
 }
 
-// Whether a byte is white, by comparisons.
+// Whether a byte is white, by comparisons: equalities become one test of a bit, which a pattern does not.
 #[tactic(auto, using(crate::proofs::Classes::white_bytes))]
 fn is_white(b: u8) -> bool
     ensures { result ≡ has_class B.white b }
 {
-    matches!(b, byte::BLANK | byte::NEWLINE | byte::TAB | byte::RETURN)
+    b == byte::BLANK || b == byte::NEWLINE || b == byte::TAB || b == byte::RETURN
 }
 
 // Whether a byte is a digit, by comparisons: for loops over single bytes.
@@ -310,20 +310,22 @@ pub fn is_digit(b: u8) -> bool
     matches!(b, byte::ZERO..=byte::NINE)
 }
 
-// Whether a byte is an operator, a quote or the comma, by comparisons.
+// Whether a byte is an operator, a quote or the comma, by comparisons. In two halves: with one pattern here and one in `is_white`, stores took 5 % more instructions.
 #[tactic(auto, using(crate::proofs::Classes::operator_bytes))]
 fn is_operator(b: u8) -> bool
     ensures { result ≡ not (has_class B.white b || has_class B.digit b || has_class B.register b) }
 {
-    matches!(
-        b,
-        byte::STRING_QUOTE..=byte::ATOM_QUOTE
-            | byte::COMMA..=byte::MINUS
-            | byte::GREATER
-            | byte::TAG_QUOTE
-            | byte::LEFT_BRACE
-            | byte::RIGHT_BRACE..=byte::TILDE
-    )
+    if b <= byte::GREATER {
+        matches!(
+            b,
+            byte::STRING_QUOTE..=byte::ATOM_QUOTE | byte::COMMA..=byte::MINUS | byte::GREATER
+        )
+    } else {
+        matches!(
+            b,
+            byte::TAG_QUOTE | byte::LEFT_BRACE | byte::RIGHT_BRACE..=byte::TILDE
+        )
+    }
 }
 
 // Whether a byte names a register, by comparisons.
