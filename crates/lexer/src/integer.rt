@@ -119,16 +119,19 @@ fn read_short(message: &[u8], from: Offset, v: u64) -> Result<Integer, NoInteger
     requires { v ≤ small }
     ensures { result ≡ integer_from (Begun.Digits false v) from.0 (drop from.0 message.now) }
 {
+    let mut i = from.0;
     let mut value = v;
-    for i in from.0..message.len() {
+    while i < message.len() {
         let b = message[i];
+        let next = i + 1;
         if !class::is_digit(b) {
             let end = Offset(i);
             return Ok(Integer { bits: value, end });
         }
         value = value * 10 + ((b - byte::ZERO) as u64);
+        i = next;
         if SMALL < value {
-            return read_long(message, Offset(i + 1), false, value);
+            return read_long(message, Offset(i), false, value);
         }
     }
     Err(NoInteger::Ended(Begun::Digits(false, value)))

@@ -9,7 +9,7 @@ use format::refusal::{Refusal, Refused};
 use format::{Offset, byte, kind};
 use lexer::integer;
 use lexer::integer::{Begun, Integer, NoInteger};
-use machine::state::{Answer, State, refused_at};
+use machine::state::{Answer, State};
 use machine::value;
 use table::RowWords;
 
@@ -17,11 +17,12 @@ use table::RowWords;
 fn no_integer(why: NoInteger, at: Offset, ended: Offset) -> Refused
     ensures { result ≡ no_integer_as why at ended }
 {
-    match why {
-        NoInteger::OutOfRange => refused_at(at, Refusal::OutOfRange),
-        NoInteger::Stray(p) => refused_at(p, Refusal::Stray),
-        NoInteger::Ended(_) => refused_at(ended, Refusal::Cut),
-    }
+    let (place, refusal) = match why {
+        NoInteger::OutOfRange => (at, Refusal::OutOfRange),
+        NoInteger::Stray(p) => (p, Refusal::Stray),
+        NoInteger::Ended(_) => (ended, Refusal::Cut),
+    };
+    Refused { refusal, place }
 }
 
 // What the first byte of an integer, a minus or a digit, begins.

@@ -10,7 +10,7 @@ use format::refusal::{Refusal, Refused};
 use format::{Depth, Offset, byte, kind};
 use lexer::quoted;
 use lexer::quoted::{Quoted, Unclosed};
-use machine::state::{Answer, State, refused_at};
+use machine::state::{Answer, State};
 use machine::{state, value};
 use std::ops::ControlFlow;
 use table::RowWords;
@@ -19,10 +19,11 @@ use table::RowWords;
 fn unclosed(why: Unclosed, ended: Offset) -> Refused
     ensures { result ≡ unclosed_as why ended }
 {
-    match why {
-        Unclosed::Stray(p) => refused_at(p, Refusal::Stray),
-        Unclosed::Ended(_) => refused_at(ended, Refusal::Cut),
-    }
+    let (place, refusal) = match why {
+        Unclosed::Stray(p) => (p, Refusal::Stray),
+        Unclosed::Ended(_) => (ended, Refusal::Cut),
+    };
+    Refused { refusal, place }
 }
 
 // An atom or a string.

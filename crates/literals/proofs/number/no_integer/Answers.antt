@@ -1,15 +1,14 @@
 -- `literals::number::no_integer` meets its contract, arm by arm.
+use mathlib.Core.Path.{refl}
 use Rattle.literals.specs.Readers.{no_integer_as}
 use Rattle.literals.proofs.number.no_integer.Goals as goal
+use Rattle.literals.proofs.number.no_integer.Goals.{in-OutOfRange, in-Stray, in-Ended}
 
-pub returns-in-OutOfRange : goal.returns-in-OutOfRange
+pub returns : goal.returns
 unfolding no_integer_as
-returns-in-OutOfRange c = rw c.in-OutOfRange.is c.refused_at.ensures
-
-pub returns-in-Stray : goal.returns-in-Stray
-unfolding no_integer_as
-returns-in-Stray c = rw c.in-Stray.is c.refused_at-in-Stray.ensures
-
-pub returns-in-Ended : goal.returns-in-Ended
-unfolding no_integer_as
-returns-in-Ended c = rw c.in-Ended.is c.refused_at-in-Ended.ensures
+returns c =
+    elim c.match-why.branch [
+      | in-OutOfRange w ↦ rw (w.in-OutOfRange.is, w.refusal-is) refl
+      | in-Stray w ↦ rw (w.in-Stray.is, w.refusal-is) refl
+      | in-Ended w ↦ rw (w.in-Ended.is, w.refusal-is) refl
+    ]

@@ -1,11 +1,9 @@
 -- `literals::text::unclosed` meets its contract, arm by arm.
+use mathlib.Core.Path.{refl}
 use Rattle.literals.specs.Readers.{unclosed_as}
 use Rattle.literals.proofs.text.unclosed.Goals as goal
+use Rattle.literals.proofs.text.unclosed.Goals.{in-Stray, in-Ended}
 
-pub returns-in-Stray : goal.returns-in-Stray
+pub returns : goal.returns
 unfolding unclosed_as
-returns-in-Stray c = rw c.in-Stray.is c.refused_at.ensures
-
-pub returns-in-Ended : goal.returns-in-Ended
-unfolding unclosed_as
-returns-in-Ended c = rw c.in-Ended.is c.refused_at-in-Ended.ensures
+returns c = elim c.match-why.branch [ in-Stray w ↦ rw (w.in-Stray.is, w.refusal-is) refl | in-Ended w ↦ rw (w.in-Ended.is, w.refusal-is) refl ]
