@@ -37,7 +37,8 @@ either_way true x y = refl
 either_way false x y = refl
 
 -- rows that are not sound
-pub rows_fail : (message : List ℕ) (rows : List Row) (root : ℕ) (scratch output : List ℕ) → sound_rows message rows ≡ false → written_as (Err Unsound) (zeroed scratch) output ≡ write_rows message rows root scratch output
+pub rows_fail : (message : List ℕ) (rows : List Row) (root : ℕ) (scratch output : List ℕ) → sound_rows message rows ≡ false
+    → written_as (Err Unsound) (zeroed scratch) output ≡ write_rows message rows root scratch output
 unfolding written_as write_rows
 rows_fail message rows root scratch output e = rw e
 
@@ -50,7 +51,8 @@ module _ (message : List ℕ) (rows : List Row) (root : ℕ) (sound : sound_rows
   unfolding written_as write_text write_rows
   too_long e = rw (sound, lt-ltb (length output) (length text) (leb-false _ _ e))
 
-  pub has_room : leb (length text) (length output) ≡ true → {left : List ℕ} {n : ℕ} → (left ≡ text ++ drop n output) × (n ≡ length text) → written_as (Ok n) (zeroed scratch) left ≡ write_rows message rows root scratch output
+  pub has_room : leb (length text) (length output) ≡ true → {left : List ℕ} {n : ℕ} → (left ≡ text ++ drop n output) × (n ≡ length text)
+      → written_as (Ok n) (zeroed scratch) left ≡ write_rows message rows root scratch output
   unfolding written_as write_text write_rows
   has_room e h = rw (sound, le-ltb (length output) (length text) (leb-true _ _ e), h.0, h.1)
 
@@ -65,7 +67,8 @@ module _ (message words : List ℕ) (used root : ℕ) (scratch output : List ℕ
     short-scratch l = rw (le-ltb message_bound (length message) h, lt-ltb (length scratch) used l)
 
     module _ (u : used ≤ length scratch) where
-      unsound : sound_table message words used root ≡ false → written_as (Err Unsound) (zeroed scratch) output ≡ write_answer message words used root scratch output
+      unsound : sound_table message words used root ≡ false
+          → written_as (Err Unsound) (zeroed scratch) output ≡ write_answer message words used root scratch output
       unfolding written_as write_answer over_bound
       unsound e = rw (le-ltb message_bound (length message) h, le-ltb (length scratch) used u, e)
 
@@ -85,10 +88,12 @@ module _ (message words : List ℕ) (used root : ℕ) (scratch output : List ℕ
             → written_as a (zeroed scratch) left ≡ write_answer message words used root scratch output
         unfolding write_answer over_bound sound_table write_rows
         by_rows e a left q =
-            rw (le-ltb message_bound (length message) h, le-ltb (length scratch) used u, count, e) ((rw (length-take-le used scratch u) at q) ∙ either_way (sound_rows message (rows_of used words)) _ _)
+            let taken = rw (length-take-le used scratch u) at q in
+            rw (le-ltb message_bound (length message) h, le-ltb (length scratch) used u, count, e) (taken ∙ either_way (sound_rows message (rows_of used words)) _ _)
 
   -- the scratch cleared at the end, whatever it holds by then
   pub cleared : (a : Result ℕ Refusal) (after left end : List ℕ) → length after ≡ length scratch → end ≡ zeroed after
-      → written_as a (zeroed scratch) left ≡ write_answer message words used root scratch output → written_as a end left ≡ write_answer message words used root scratch output
+      → written_as a (zeroed scratch) left ≡ write_answer message words used root scratch output
+      → written_as a end left ≡ write_answer message words used root scratch output
   unfolding zeroed
   cleared a after left end k e q = rw (e, k) q

@@ -128,7 +128,10 @@ module _ {t : Table} {all room : ℕ} {stack : List ℕ} {depth left : ℕ} (m :
       named_fit =
           let n = length-last_first stack (depth - 1) in
           let fit : depth - 1 + length (named (row_used t top)) ≤ t.used
-          = by-top (λ js. depth - 1 + length js ≤ t.used) (omega (arith, top-low.0)) (λ a l. omega (arith, top-low.0)) (λ a b l g. omega (arith, top-low.0)) in
+          = by-top (λ js. depth - 1 + length js ≤ t.used)
+          (omega (arith, top-low.0))
+          (λ a l. omega (arith, top-low.0))
+          (λ a b l g. omega (arith, top-low.0)) in
           rw is (omega (arith, fit, m.stack_words))
 
       counted : to_count t stack depth ≡ own_length r + (total (text_of t) (named r ++ below) + 1)

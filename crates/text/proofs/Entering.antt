@@ -96,12 +96,14 @@ module _ {t : Table} {stack₀ output₀ : List ℕ} {n₀ frames₀ end₀ : �
     pub first-room : first_named r < row_room t.rows.now
     first-room = omega (arith, first-earlier, above-room t n below w.above)
 
-    pub entered : {output' : List ℕ} {n' end' : ℕ} {r' : Row} → output' ≡ sets output end (open_bytes r) → (end' ≡ end + length (open_bytes r)) × (n' ≡ first_named r)
+    pub entered : {output' : List ℕ} {n' end' : ℕ} {r' : Row} → output' ≡ sets output end (open_bytes r)
+        → (end' ≡ end + length (open_bytes r)) × (n' ≡ first_named r)
         → r' ≡ row_in t.rows.now n' → Entering t stack₀ output₀ n₀ frames₀ end₀ (set stack frames n) output' n' r' (frames + 1) end'
     entered {output' = output'} {n' = n'} {end' = end'} o s read =
         let kept : length output' ≡ length output = rw o (length-sets output end (open_bytes r)) in
         let frames' : last_first (set stack frames n) (frames + 1) ≡ n ∷ below = rw add-one (pushed stack frames n frame-fits) in
-        let put : Partly output end (coming t n below) output' end' (coming t n' (n ∷ below)) = rw s.1 (part_put output end _ (open_bytes r) _ text (o, s.0)) in
+        let put : Partly output end (coming t n below) output' end' (coming t n' (n ∷ below))
+        = rw s.1 (part_put output end _ (open_bytes r) _ text (o, s.0)) in
         record {
           stack_words = rw length-set w.stack_words;
           room = rw frames' (part_room output end _ put kept w.room);
@@ -121,4 +123,5 @@ module _ {t : Table} {stack₀ output₀ : List ℕ} {n₀ frames₀ end₀ : �
     pub leaf-stored : {output' : List ℕ} {at : ℕ} → output' ≡ sets output end (leaf_bytes t.message.now r) → at ≡ end + length (leaf_bytes t.message.now r)
         → Falling t below × (Partly output₀ end₀ (coming t n₀ (last_first stack₀ frames₀)) output' at (pending t below) × (end₀ < at))
     leaf-stored o a =
-        (falling_below t n below w.above, (part_then output₀ end₀ _ w.part (part_put output end _ (leaf_bytes t.message.now r) _ leaf.text (o, a)), omega (arith, a, leaf.some, w.part.onward)))
+        let put = part_put output end _ (leaf_bytes t.message.now r) _ leaf.text (o, a) in
+        (falling_below t n below w.above, (part_then output₀ end₀ _ w.part put, omega (arith, a, leaf.some, w.part.onward)))

@@ -17,7 +17,8 @@ use Rattle.text.specs.declared.rows.Table.{Table}
 use Rattle.text.specs.Rows.{row_used, term_of}
 use Rattle.text.specs.Walk.{frame_row, frame_on, pending, coming, coming_fields, of_field, Above, Partly}
 use Rattle.text.proofs.Partly.{part_none, part_then, part_room, put_fits, part_put}
-use Rattle.text.proofs.Frames.{Leaf, above-used, above-room, above_lower, falling_below, row-bound, row-frame, found, leaf_read, field_names, field_rest, more_fields, no_fields, field_frame}
+use Rattle.text.proofs.Frames.{Leaf, above-used, above-room, above_lower, falling_below, row-bound, row-frame, found, leaf_read}
+use Rattle.text.proofs.Frames.{field_names, field_rest, more_fields, no_fields, field_frame}
 use Rattle.text.proofs.Turned.{Turned, turned-done, turned-above}
 
 -- the stack, the output, the first field's row and where the text goes on, at first
@@ -31,7 +32,8 @@ module _ (t : Table) (stack₀ output₀ : List ℕ) (top n₀ end₀ : ℕ) whe
     pub above : Above t n (last_first stack₀ top)
     pub part : Partly output₀ end₀ (coming_fields t n₀ (last_first stack₀ top)) output end (coming_fields t n (last_first stack₀ top))
 
-  pub starts : {r : Row} → Above t n₀ (last_first stack₀ top) → T (is_tuple_kind (row_in t.rows.now n₀).kind) → end₀ + length (coming_fields t n₀ (last_first stack₀ top)) ≤ length output₀
+  pub starts : {r : Row} → Above t n₀ (last_first stack₀ top) → T (is_tuple_kind (row_in t.rows.now n₀).kind)
+      → end₀ + length (coming_fields t n₀ (last_first stack₀ top)) ≤ length output₀
       → r ≡ row_in t.rows.now n₀ → Fielding stack₀ output₀ n₀ r end₀
   starts above tuple room read =
       let found₀ = found t n₀ (above-used t n₀ (last_first stack₀ top) above) in
@@ -44,7 +46,8 @@ module _ (t : Table) (stack₀ output₀ : List ℕ) (top n₀ end₀ : ℕ) whe
         part = part_none output₀ end₀ _;
       }
 
-module _ {t : Table} {stack₀ output₀ : List ℕ} {top n₀ end₀ : ℕ} {stack output : List ℕ} {n : ℕ} {r : Row} {end : ℕ} (w : Fielding t stack₀ output₀ top n₀ end₀ stack output n r end) where
+module _ {t : Table} {stack₀ output₀ : List ℕ} {top n₀ end₀ : ℕ} {stack output : List ℕ} {n : ℕ} {r : Row} {end : ℕ}
+    (w : Fielding t stack₀ output₀ top n₀ end₀ stack output n r end) where
   abbrev below : List ℕ
   below = last_first stack₀ top
 
@@ -76,11 +79,13 @@ module _ {t : Table} {stack₀ output₀ : List ℕ} {top n₀ end₀ : ℕ} {st
       text = rw w.read (more_fields t n inside (code "}" ∷ pending t below) is_field)
 
       -- it is no leaf: it comes next, above the frame of its row
-      pub into : top < length stack → Turned t top output₀ end₀ text₀ (record { next = Some (record { 0 = r.first }); depth = top + 1; at = end }) (set stack top n) output
+      pub into : top < length stack
+          → Turned t top output₀ end₀ text₀ (record { next = Some (record { 0 = r.first }); depth = top + 1; at = end }) (set stack top n) output
       unfolding pending
       into h =
           let self : frame_row n ≡ n = row-frame n (row-bound t n inside) in
-          let frame : frame_on t n (pending t below) ≡ coming_fields t r.second below = rw w.read (field_frame t n inside (pending t below) n self is_field) in
+          let frame : frame_on t n (pending t below) ≡ coming_fields t r.second below
+          = rw w.read (field_frame t n inside (pending t below) n self is_field) in
           let ahead : coming t r.first (n ∷ below) ≡ coming_fields t n below = ap (text_on (term_of t r.first)) frame ∙ sym text in
           rw w.same (turned-above t top stack₀ (rw w.same at h) (rw self (earlier.0, (of_field (rw (self, is_field)), w.above))) (rw ahead w.part))
 
@@ -95,7 +100,8 @@ module _ {t : Table} {stack₀ output₀ : List ℕ} {top n₀ end₀ : ℕ} {st
         pub leaf-fits : Inside t.message.now f × (end + length (leaf_bytes t.message.now f) ≤ length output)
         leaf-fits = (leaf.inside, put_fits output end _ (leaf_bytes t.message.now f) _ leaf-text w.room)
 
-        pub next : {output' : List ℕ} {end' : ℕ} {r' : Row} → output' ≡ sets output end (leaf_bytes t.message.now f) → end' ≡ end + length (leaf_bytes t.message.now f)
+        pub next : {output' : List ℕ} {end' : ℕ} {r' : Row} → output' ≡ sets output end (leaf_bytes t.message.now f)
+            → end' ≡ end + length (leaf_bytes t.message.now f)
             → r' ≡ row_in t.rows.now r.second → Fielding t stack₀ output₀ top n₀ end₀ stack output' r.second r' end'
         next {output' = output'} o e read =
             let kept : length output' ≡ length output = rw o (length-sets output end (leaf_bytes t.message.now f)) in
@@ -119,4 +125,6 @@ module _ {t : Table} {stack₀ output₀ : List ℕ} {top n₀ end₀ : ℕ} {st
 
     pub closed : {output' : List ℕ} {end' : ℕ} → output' ≡ set output end (code "}") → end' ≡ end + 1
         → Turned t top output₀ end₀ text₀ (record { next = None; depth = top; at = end' }) stack output'
-    closed o e = rw w.same (turned-done t top stack₀ (falling_below t n below w.above) (part_then output₀ end₀ text₀ w.part (part_put output end _ (code "}" ∷ []) _ last (o, e))))
+    closed o e =
+        let put = part_put output end _ (code "}" ∷ []) _ last (o, e) in
+        rw w.same (turned-done t top stack₀ (falling_below t n below w.above) (part_then output₀ end₀ text₀ w.part put))

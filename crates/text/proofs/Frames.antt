@@ -13,7 +13,8 @@ use Rattle.format.specs.Bound.{row_bound}
 use Rattle.format.specs.Term as T
 use Rattle.format.specs.Term.{Term}
 use Rattle.format.specs.Text.{natural_on, decimal_on, between, text_on, items_on, fields_on}
-use Rattle.format.specs.Rows.{Row, row_at, row_room, span_of, fields_of, is_list_kind, is_tuple_kind, binary_kind, cons_kind, end_kind, field_kind, tag_kind, integer_of_row}
+use Rattle.format.specs.Rows.{Row, row_at, row_room, span_of, fields_of, integer_of_row}
+use Rattle.format.specs.Rows.{is_list_kind, is_tuple_kind, binary_kind, cons_kind, end_kind, field_kind, tag_kind}
 use Rattle.format.specs.Sound.{sound_row, sound_rest}
 use Rattle.format.proofs.Lists.{length-span}
 use Rattle.format.proofs.Sizes.{natural_onto, between_onto, text_onto}
@@ -205,17 +206,30 @@ module _ (t : Table) where
         let at : i < row_bound = row-bound i l in
         let self : frame_row i ≡ i = row-frame i at in
         let counted : (k : r'.kind ≡ binary_kind) → natural_on r'.second [] ++ between (code "~") span [] ≡ text_on (T.binary span) []
-        = λ k. rw (length-span message r'.first r'.second (R.binary-inside message i r' (own i l) k)) (sym (natural_onto r'.second [] (between (code "~") span []))) in
+        = λ k. rw (length-span message r'.first r'.second (R.binary-inside message i r' (own i l) k))
+        (sym (natural_onto r'.second [] (between (code "~") span []))) in
         R.by_kind message i r' (own i l)
         (λ k. leaf _ (R.integer-term message rows i (inside i l) k) (rw k) (rw k) (integer-some (integer_of_row r')))
         (λ k. leaf _ (R.atom-term message rows i (inside i l) k) (rw k) (rw k) (omega arith))
         (λ k. leaf _ (R.string-term message rows i (inside i l) k) (rw k) (rw k) (omega arith))
         (λ k. leaf _ (R.binary-term message rows i (inside i l) k) (rw k) (rw k (counted k)) (natural-some (length span) (code "~") (span ++ code "~" ∷ [])))
         (λ k. leaf _ (R.nil-term message rows i (inside i l) k) (rw k) (rw k) (omega arith))
-        (λ k. inner (rw k) (record { frame = (of_cell (rw (self, k))); earlier = (rw k (R.cons-earlier message i r' (own i l) k).1); text = (rw (k, item-frame i self k at) (cons-text k)) }))
+        (λ k. inner (rw k) (record {
+          frame = (of_cell (rw (self, k)));
+          earlier = (rw k (R.cons-earlier message i r' (own i l) k).1);
+          text = (rw (k, item-frame i self k at) (cons-text k));
+        }))
         (λ k. leaf _ (R.end-term message rows i (inside i l) k) (rw k) (rw k) (omega arith))
-        (λ k. inner (rw k) (record { frame = (of_field (rw (self, k))); earlier = (rw k (R.field_earlier message i r' (own i l) k).0); text = (rw (k, field_frame i self k) (field_text k)) }))
-        (λ k. inner (rw k) (record { frame = (of_tag (rw (self, k))); earlier = (rw k (R.tag-inner message i r' (own i l) k)); text = (rw (k, tag-frame i self k) (tag-text k)) }))
+        (λ k. inner (rw k) (record {
+          frame = (of_field (rw (self, k)));
+          earlier = (rw k (R.field_earlier message i r' (own i l) k).0);
+          text = (rw (k, field_frame i self k) (field_text k));
+        }))
+        (λ k. inner (rw k) (record {
+          frame = (of_tag (rw (self, k)));
+          earlier = (rw k (R.tag-inner message i r' (own i l) k));
+          text = (rw (k, tag-frame i self k) (tag-text k));
+        }))
 
     -- the same by the row's words, as they were read
     pub leaf_read : {r : Row} → r ≡ r' → is_leaf_kind r.kind ≡ true → Leaf r

@@ -17,7 +17,8 @@ use Rattle.text.specs.declared.rows.Table.{Table}
 use Rattle.text.specs.Rows.{row_used, term_of}
 use Rattle.text.specs.Walk.{frame_row, frame_on, pending, coming, of_cell, Falling, Partly}
 use Rattle.text.proofs.Partly.{part_none, part_then, part_room, put_fits, part_put}
-use Rattle.text.proofs.Frames.{Leaf, above-used, above-room, falling_below, row-frame, begun-frame, found, leaf_read, cell-names, item-frame, begun-item_frame}
+use Rattle.text.proofs.Frames.{Leaf, above-used, above-room, falling_below, row-frame, begun-frame, found, leaf_read}
+use Rattle.text.proofs.Frames.{cell-names, item-frame, begun-item_frame}
 use Rattle.text.proofs.Turned.{Turned, turned-done, turned-above}
 
 -- the frame at `top` of the stack is that of a list cell with this item
@@ -97,7 +98,8 @@ module _ {t : Table} {stack output : List ℕ} {top at item : ℕ} (w : Cell t s
       pub leaf-fits : Inside t.message.now f × (at + length (leaf_bytes t.message.now f) ≤ length output)
       leaf-fits = (leaf.inside, put_fits output at text₀ (leaf_bytes t.message.now f) _ (text ∙ leaf.text) w.room)
 
-      module _ {output' : List ℕ} {at' : ℕ} (o : output' ≡ sets output at (leaf_bytes t.message.now f)) (a : at' ≡ at + length (leaf_bytes t.message.now f)) where
+      module _ {output' : List ℕ} {at' : ℕ} (o : output' ≡ sets output at (leaf_bytes t.message.now f))
+          (a : at' ≡ at + length (leaf_bytes t.message.now f)) where
         put : Partly output at text₀ output' at' (code "&" ∷ more)
         put = part_put output at text₀ (leaf_bytes t.message.now f) _ (text ∙ leaf.text) (o, a)
 
@@ -106,7 +108,9 @@ module _ {t : Table} {stack output : List ℕ} {top at item : ℕ} (w : Cell t s
 
         pub item-done : {output'' : List ℕ} {at'' : ℕ} → output'' ≡ set output' at' (code "&") → at'' ≡ at' + 1
             → Turned t top output at text₀ (record { next = None; depth = top; at = at'' }) stack output''
-        item-done o' a' = turned-done t top stack (falling_below t i below w.falling.1) (part_then output at text₀ put (part_put output' at' (code "&" ∷ more) (code "&" ∷ []) more refl (o', a')))
+        item-done o' a' =
+            let and = part_put output' at' (code "&" ∷ more) (code "&" ∷ []) more refl (o', a') in
+            turned-done t top stack (falling_below t i below w.falling.1) (part_then output at text₀ put and)
 
     -- another row comes next, and the item is begun
     pub into : Turned t top output at text₀ (record { next = Some (record { 0 = item }); depth = top + 1; at = at }) (set stack top (e + row_bound)) output

@@ -34,7 +34,8 @@ abbrev pub turns_left : Place → ℕ
 turns_left p = turns_next p.next p.depth
 
 -- a turn leaves no frame more, and takes its own where no row comes next
-turn-less : (next : Option Row) (depth depth' : ℕ) → 0 < depth → MatchOption next (depth' ≡ depth - 1) (λ row. depth' ≡ depth - 1 + 1) → turns_next next depth' < turns_next None depth
+turn-less : (next : Option Row) (depth depth' : ℕ) → 0 < depth
+    → MatchOption next (depth' ≡ depth - 1) (λ row. depth' ≡ depth - 1 + 1) → turns_next next depth' < turns_next None depth
 unfolding turns_next
 turn-less None depth depth' h e = omega arith
 turn-less (Some row) depth depth' h e = omega arith

@@ -56,7 +56,8 @@ module _ {t : Table} {output₀ : List ℕ} {root : ℕ} {stack output : List �
     first_fits = record { stack_words = w.stack_words; above = rw some at w.ready; room = rw text-first at w.room }
 
     -- its first leaf is stored, and then what comes after it
-    module _ {output' text' : List ℕ} {at' : ℕ} (first : Partly output p.at (coming t row.0 (last_first stack p.depth)) output' at' text') (l : length output' ≡ length output) where
+    module _ {output' text' : List ℕ} {at' : ℕ} (first : Partly output p.at (coming t row.0 (last_first stack p.depth)) output' at' text')
+        (l : length output' ≡ length output) where
       pub room-left : at' + length text' ≤ length output'
       room-left = part_room output p.at _ first l (rw text-first at w.room)
 
@@ -70,8 +71,9 @@ module _ {t : Table} {output₀ : List ℕ} {root : ℕ} {stack output : List �
         both : Partly output₀ 0 (plain (term_of t root)) output'' at'' text''
         both = part_then output₀ 0 _ (rw text-first at w.part) (part_then output p.at _ first rest)
 
-    pub goes_on : {output' text' : List ℕ} {at' : ℕ} {stack'' output'' : List ℕ} {p'' : Place} → Partly output p.at (coming t row.0 (last_first stack p.depth)) output' at' text'
-        → length output' ≡ length output → Partly output' at' text' output'' p''.at (text_from t p'' stack'') → length output'' ≡ length output' → length stack'' ≡ length stack
+    pub goes_on : {output' text' : List ℕ} {at' : ℕ} {stack'' output'' : List ℕ} {p'' : Place}
+        → Partly output p.at (coming t row.0 (last_first stack p.depth)) output' at' text' → length output' ≡ length output
+        → Partly output' at' text' output'' p''.at (text_from t p'' stack'') → length output'' ≡ length output' → length stack'' ≡ length stack
         → (p''.next ≡ None → p''.depth ≡ 0) → ReadyNext t p''.next (last_first stack'' p''.depth) → Storing t output₀ root stack'' output'' p''
     goes_on first l rest l' k whole ready =
         record { stack_words = omega (arith, k, w.stack_words); whole = whole; ready = ready; room = room'' first l rest l'; part = both first l rest l' }
@@ -85,7 +87,8 @@ module _ {t : Table} {output₀ : List ℕ} {root : ℕ} {stack output : List �
     pub last-place : p.at < length output
     last-place = let h = rw end at w.room in omega (arith, h)
 
-    pub all_stored : length output ≡ length output₀ → (set output p.at (code "$") ≡ plain (term_of t root) ++ drop (p.at + 1) output₀) × (p.at + 1 ≡ length (plain (term_of t root)))
+    pub all_stored : length output ≡ length output₀
+        → (set output p.at (code "$") ≡ plain (term_of t root) ++ drop (p.at + 1) output₀) × (p.at + 1 ≡ length (plain (term_of t root)))
     all_stored e =
         let part = rw end at w.part in
         let count : p.at + 1 ≡ length (plain (term_of t root)) = omega (arith, part.count) in

@@ -27,7 +27,8 @@ module _ (t : Table) (top : ℕ) {output₀ : List ℕ} {end₀ : ℕ} {text₀ 
   turned-done f p = record { depth = refl; ready_next = f; partly = p }
 
   -- a row comes next, above the frame e
-  pub turned-above : {row e : ℕ} → top < length stack → Above t row (e ∷ last_first stack top) → Partly output₀ end₀ text₀ output at (coming t row (e ∷ last_first stack top))
+  pub turned-above : {row e : ℕ} → top < length stack → Above t row (e ∷ last_first stack top)
+      → Partly output₀ end₀ text₀ output at (coming t row (e ∷ last_first stack top))
       → Turned t top output₀ end₀ text₀ (record { next = Some (record { 0 = row }); depth = top + 1; at = at }) (set stack top e) output
   unfolding ReadyNext coming_next
   turned-above {e = e} h a p =

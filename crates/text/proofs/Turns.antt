@@ -79,7 +79,8 @@ module _ {t : Table} {stack output : List ℕ} {top at : ℕ} (w : Turn t stack 
       pub rest-room : at + length (coming_fields t r.second below) ≤ length output
       rest-room = rw fields_text at w.room
 
-      pub fields_turned : (p : Place) (stack' output' : List ℕ) → Turned t top output at (coming_fields t r.second below) p stack' output' → Turned t top output at text₀ p stack' output'
+      pub fields_turned : (p : Place) (stack' output' : List ℕ)
+          → Turned t top output at (coming_fields t r.second below) p stack' output' → Turned t top output at text₀ p stack' output'
       fields_turned p stack' output' u = rw fields_text u
 
     -- a tag's: the tag comes next

@@ -15,4 +15,5 @@ written_as (Err refusal) scratch output = write_refusal (number_of refusal) scra
 
 -- for rows among which the root is: 16 where they are not sound, else as `write_text`
 unfoldable pub write_rows : List ℕ → List Row → ℕ → List ℕ → List ℕ → A.Written
-write_rows message rows root scratch output = cond (sound_rows message rows) (write_text (plain (term_at message rows root)) scratch output) (write_refusal 16 (zeroed scratch) output)
+write_rows message rows root scratch output =
+    cond (sound_rows message rows) (write_text (plain (term_at message rows root)) scratch output) (write_refusal 16 (zeroed scratch) output)

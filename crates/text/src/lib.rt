@@ -27,7 +27,8 @@ fn write_rows(
     output: &mut [u8],
 ) -> Result<usize, Refusal>
     requires { T (count_fits rows.now (length stack.old) && root_among (length stack.old) root.0) }
-    ensures { (scratch : List ℕ) → written_as result (zeroed scratch) output.new ≡ write_rows message.now (rows_of (length stack.old) rows.now) root.0 scratch output.old }
+    ensures { (scratch : List ℕ) → written_as result (zeroed scratch) output.new
+        ≡ write_rows message.now (rows_of (length stack.old) rows.now) root.0 scratch output.old }
 {
     if !measure::judge(message, rows, stack) {
         return Err(Refusal::Unsound);
@@ -65,7 +66,8 @@ fn write_table(
     write_rows(message, rows, root, &mut scratch[..n], output)
 }
 
-// Writes the plain text of row `root` of a table of `used` rows at the head of the output, and answers how many bytes it has. The scratch is working memory, a word for each row used.
+// Writes the plain text of row `root` of a table of `used` rows at the head of the output, and answers how many bytes it has.
+// The scratch is working memory, a word for each row used.
 // A refusal changes no output byte; after all but 1 and 2 the scratch is zero.
 pub fn write(
     message: &[u8],

@@ -65,7 +65,8 @@ pub(crate) fn put_first(
     requires room { at + length (coming table row.0 (last_first stack.old depth)) ≤ length output.old }
     ensures next { result.next ≡ None }
     ensures ready_next { ReadyNext table.entry result.next (last_first stack.new result.depth) }
-    ensures partly { Partly output.old at (coming table.entry row.0 (last_first stack.old depth)) output.new result.at (coming_next table.entry result.next (last_first stack.new result.depth)) }
+    ensures partly { Partly output.old at (coming table.entry row.0 (last_first stack.old depth))
+        output.new result.at (coming_next table.entry result.next (last_first stack.new result.depth)) }
     ensures rises { at < result.at }
 {
     let mut n = row;
@@ -102,7 +103,8 @@ fn put_fields(
     requires room { at + length (coming_fields table rest.0 (last_first stack.old top)) ≤ length output.old }
     ensures depth { MatchOption result.next (result.depth ≡ top) (λ row. result.depth ≡ top + 1) }
     ensures ready_next { ReadyNext table.entry result.next (last_first stack.new result.depth) }
-    ensures partly { Partly output.old at (coming_fields table.entry rest.0 (last_first stack.old top)) output.new result.at (coming_next table.entry result.next (last_first stack.new result.depth)) }
+    ensures partly { Partly output.old at (coming_fields table.entry rest.0 (last_first stack.old top))
+        output.new result.at (coming_next table.entry result.next (last_first stack.new result.depth)) }
 {
     let mut n = rest;
     let mut words = table::read_row(table.rows, n);
@@ -141,10 +143,12 @@ fn put_item(
     requires top_in_bounds { top < length stack.old }
     requires falling { Falling table (get_or stack.old top 0 ∷ last_first stack.old top) }
     requires room { at + length (pending table (get_or stack.old top 0 ∷ last_first stack.old top)) ≤ length output.old }
-    requires cell { ((row_in table.rows.now (frame_row (get_or stack.old top 0))).kind ≡ cons_kind) × ((row_in table.rows.now (frame_row (get_or stack.old top 0))).first ≡ item.0) }
+    requires cell { ((row_in table.rows.now (frame_row (get_or stack.old top 0))).kind ≡ cons_kind)
+        × ((row_in table.rows.now (frame_row (get_or stack.old top 0))).first ≡ item.0) }
     ensures depth { MatchOption result.next (result.depth ≡ top) (λ row. result.depth ≡ top + 1) }
     ensures ready_next { ReadyNext table.entry result.next (last_first stack.new result.depth) }
-    ensures partly { Partly output.old at (pending table.entry (get_or stack.old top 0 ∷ last_first stack.old top)) output.new result.at (coming_next table.entry result.next (last_first stack.new result.depth)) }
+    ensures partly { Partly output.old at (pending table.entry (get_or stack.old top 0 ∷ last_first stack.old top))
+        output.new result.at (coming_next table.entry result.next (last_first stack.new result.depth)) }
 {
     let frame = stack[top];
     if ITEM_BEGUN <= frame {
@@ -178,7 +182,8 @@ fn put_frame(table: Table, stack: &mut [u32], top: usize, output: &mut [u8], at:
     requires room { at + length (pending table (get_or stack.old top 0 ∷ last_first stack.old top)) ≤ length output.old }
     ensures depth { MatchOption result.next (result.depth ≡ top) (λ row. result.depth ≡ top + 1) }
     ensures ready_next { ReadyNext table.entry result.next (last_first stack.new result.depth) }
-    ensures partly { Partly output.old at (pending table.entry (get_or stack.old top 0 ∷ last_first stack.old top)) output.new result.at (coming_next table.entry result.next (last_first stack.new result.depth)) }
+    ensures partly { Partly output.old at (pending table.entry (get_or stack.old top 0 ∷ last_first stack.old top))
+        output.new result.at (coming_next table.entry result.next (last_first stack.new result.depth)) }
 {
     let frame = stack[top];
     let words = table::read_row(table.rows, Row(frame % ITEM_BEGUN));
@@ -204,7 +209,8 @@ pub(crate) fn put_rest(table: Table, stack: &mut [u32], output: &mut [u8], first
     requires room { first.at + length (coming_next table first.next (last_first stack.old first.depth)) ≤ length output.old }
     ensures whole { result.next ≡ None → result.depth ≡ 0 }
     ensures ready_next { ReadyNext table.entry result.next (last_first stack.new result.depth) }
-    ensures partly { Partly output.old first.at (coming_next table.entry first.next (last_first stack.old first.depth)) output.new result.at (coming_next table.entry result.next (last_first stack.new result.depth)) }
+    ensures partly { Partly output.old first.at (coming_next table.entry first.next (last_first stack.old first.depth))
+        output.new result.at (coming_next table.entry result.next (last_first stack.new result.depth)) }
 {
     let mut place = first;
     while place.next.is_none() && 0 < place.depth {

@@ -23,7 +23,8 @@ pub loop-place-smaller : goal.loop-place-smaller
 loop-place-smaller c =
     let first = c.put_first-first in
     let rest = c.put_rest-place in
-    shorter c.loop-place.invariant c.in-Some.is first.ensures.partly first.auto.output rest.ensures.partly rest.auto.output c.loop-place.auto.output first.ensures.rises
+    shorter c.loop-place.invariant c.in-Some.is first.ensures.partly first.auto.output rest.ensures.partly rest.auto.output
+    c.loop-place.auto.output first.ensures.rises
 
 pub loop-place-preserved : goal.loop-place-preserved
 loop-place-preserved c =

@@ -26,7 +26,8 @@ pub begin-begun-requires : goal.begin-begun-requires
 begin-begun-requires c = begin_fits c.loop-n.invariant (sym c.is_leaf.ensures ∙ c.loop-n-test.true)
 
 pub read_row-words-requires-in-loop-n : goal.read_row-words-requires-in-loop-n
-read_row-words-requires-in-loop-n c = omega (arith, c.begin-begun.ensures.at_value.1, first-room c.loop-n.invariant (sym c.is_leaf.ensures ∙ c.loop-n-test.true))
+read_row-words-requires-in-loop-n c =
+    omega (arith, c.begin-begun.ensures.at_value.1, first-room c.loop-n.invariant (sym c.is_leaf.ensures ∙ c.loop-n-test.true))
 
 pub loop-n-smaller : goal.loop-n-smaller
 loop-n-smaller c = omega (arith, c.begin-begun.ensures.at_value.1, first-earlier c.loop-n.invariant (sym c.is_leaf.ensures ∙ c.loop-n-test.true))
