@@ -3,7 +3,6 @@ use Prim.Native.Nat.{ℕ, ◌+◌, ◌≤◌, ◌<◌}
 use mathlib.Core.Path.{◌≡◌}
 use mathlib.Core.Bool.{Bool, true, false}
 use mathlib.Core.List.{List}
-use native.Mathlib.Omega.{arith}
 use lib.ListN.{length}
 use borrow.Author.Tests.{lt-ltb, le-ltb}
 use Rattle.format.specs.Bound.{message_bound}
@@ -20,40 +19,37 @@ module _ (message_a words_a : List ℕ) (used_a root_a : ℕ) (message_b words_b
   abbrev answer : A.Compared
   answer = compare_answer message_a words_a used_a root_a message_b words_b used_b root_b scratch
 
-  abbrev pub Answers : Result Bool Refusal → List ℕ → Type 0
-  Answers c end = compared_as c end ≡ answer
-
-  pub over_first : message_bound < length message_a → Answers (Err OverBound) scratch
+  pub over_first : message_bound < length message_a → compared_as (Err OverBound) scratch ≡ answer
   unfolding compared_as compare_answer over_bound
   over_first h = rw (lt-ltb message_bound (length message_a) h)
 
   module _ (in_a : length message_a ≤ message_bound) where
-    pub over-second : message_bound < length message_b → Answers (Err OverBound) scratch
+    pub over-second : message_bound < length message_b → compared_as (Err OverBound) scratch ≡ answer
     unfolding compared_as compare_answer over_bound
     over-second h = rw (le-ltb message_bound (length message_a) in_a, lt-ltb message_bound (length message_b) h)
 
     module _ (in_b : length message_b ≤ message_bound) where
-      pub short-scratch : length scratch < used_a + used_b → Answers (Err ShortTable) scratch
+      pub short-scratch : length scratch < used_a + used_b → compared_as (Err ShortTable) scratch ≡ answer
       unfolding compared_as compare_answer over_bound
       short-scratch h = rw (le-ltb message_bound (length message_a) in_a, le-ltb message_bound (length message_b) in_b, lt-ltb (length scratch) (used_a + used_b) h)
 
       module _ (room : used_a + used_b ≤ length scratch) where
-        pub unsound-first : sound_table message_a words_a used_a root_a ≡ false → Answers (Err Unsound) (zeroed scratch)
+        pub unsound-first : sound_table message_a words_a used_a root_a ≡ false → compared_as (Err Unsound) (zeroed scratch) ≡ answer
         unfolding compared_as compare_answer over_bound
         unsound-first e = rw (le-ltb message_bound (length message_a) in_a, le-ltb message_bound (length message_b) in_b, le-ltb (length scratch) (used_a + used_b) room, e)
 
         module _ (sound_a : sound_table message_a words_a used_a root_a ≡ true) where
-          pub unsound-second : sound_table message_b words_b used_b root_b ≡ false → Answers (Err Unsound) (zeroed scratch)
+          pub unsound-second : sound_table message_b words_b used_b root_b ≡ false → compared_as (Err Unsound) (zeroed scratch) ≡ answer
           unfolding compared_as compare_answer over_bound
           unsound-second e = rw (le-ltb message_bound (length message_a) in_a, le-ltb message_bound (length message_b) in_b, le-ltb (length scratch) (used_a + used_b) room, sound_a, e)
 
           -- both tables are sound
           module _ (sound_b : sound_table message_b words_b used_b root_b ≡ true) where
-            pub compared : (same : Bool) → same ≡ same_term (term_in (side message_a words_a used_a) root_a) (term_in (side message_b words_b used_b) root_b) → Answers (Ok same) (zeroed scratch)
+            pub compared : (same : Bool) → same ≡ same_term (term_in (side message_a words_a used_a) root_a) (term_in (side message_b words_b used_b) root_b) → compared_as (Ok same) (zeroed scratch) ≡ answer
             unfolding compared_as compare_answer over_bound same_term
             compared same e = rw (le-ltb message_bound (length message_a) in_a, le-ltb message_bound (length message_b) in_b, le-ltb (length scratch) (used_a + used_b) room, sound_a, sound_b, e)
 
   -- the scratch cleared at the end, whatever it holds by then
-  pub cleared : (c : Result Bool Refusal) (after end : List ℕ) → length after ≡ length scratch → end ≡ zeroed after → Answers c (zeroed scratch) → Answers c end
+  pub cleared : (c : Result Bool Refusal) (after end : List ℕ) → length after ≡ length scratch → end ≡ zeroed after → compared_as c (zeroed scratch) ≡ answer → compared_as c end ≡ answer
   unfolding zeroed
   cleared c after end k e q = rw (e, k) q

@@ -1,18 +1,18 @@
 -- The search for a row's class: among the rows of its own side before it, and of the side before its own.
 use Prim.Native.Nat.{ℕ, ◌+◌, ◌-◌, ◌≤◌, ◌<◌}
 use mathlib.Core.Path.{◌≡◌, ap, ap₂, sym, ◌∙◌}
-use mathlib.Core.Bool.{Bool, ◌&&◌}
+use mathlib.Core.Bool.{Bool, true, ◌&&◌}
 use mathlib.Core.List.{List, [], ◌∷◌, ◌++◌}
 use native.Mathlib.Nat.{zero-add}
 use native.Mathlib.Numerals.{add-one}
 use native.Mathlib.Omega.{arith}
-use lib.Dec.{T, eqb}
+use lib.Dec.{eqb}
 use lib.ListN.{length, get_or, take, set}
 use lib.Seq.{get_or-take, take-suc-set, take_all}
 use borrow.Author.Tests.{lt-ltb, le-ltb}
 use Rattle.format.specs.Term.{Term}
 use Rattle.format.specs.Bound.{message_bound, row_bound}
-use Rattle.format.specs.Rows.{Row, row_at, rows_of, row_room}
+use Rattle.format.specs.Rows.{row_at, rows_of, row_room}
 use Rattle.format.specs.Sound.{sound_table}
 use Rattle.format.proofs.TableRows.{passed}
 use Rattle.table.specs.Words.{row_in}
@@ -34,9 +34,13 @@ read s ok i l = row_of s.words s.used i ok.count l
 pub read-inside : (s : Side) → Sound s → (base i : ℕ) → i < s.used → SpanInside (rows_in s base i)
 read-inside s ok base i l = rw (read s ok i l) (span-inside s ok i l base)
 
--- a sound table is a sound side
-pub sound-side : (s : Side) (root : ℕ) → length s.message ≤ message_bound → T (sound_table s.message s.words s.used root) → Sound s
-sound-side s root short h = let p = passed s.message s.words s.used root h in record { short = short; count = p.fits; rows = p.rows }
+-- a sound table is a sound side, and its root is a row of it
+module _ (s : Side) (root : ℕ) (sound : sound_table s.message s.words s.used root ≡ true) where
+  pub sound-side : length s.message ≤ message_bound → Sound s
+  sound-side short = let p = passed s.message s.words s.used root (rw sound tt) in record { short = short; count = p.fits; rows = p.rows }
+
+  pub root-among : root < s.used
+  root-among = (passed s.message s.words s.used root (rw sound tt)).among
 
 -- so few rows that the numbers of both sides' rows fit a word
 pub few : (s : Side) → Sound s → s.used ≤ row_bound
@@ -75,7 +79,7 @@ module _ (a b : Side) where
     class_as = sym (leader term (term n) n)
 
     -- row n is row j of the side y, read as r; it is looked for among the rows of the side x
-    module _ (x y : Side) (base_x base_y : ℕ) (lx : Lies x base_x) (ly : Lies y base_y) (j : ℕ) (lj : j < y.used) (own : base_y + j ≡ n) (r : Row) (e : r ≡ row_in y.words j) where
+    module _ (x y : Side) (base_x base_y : ℕ) (lx : Lies x base_x) (ly : Lies y base_y) (j : ℕ) (lj : j < y.used) (own : base_y + j ≡ n) where
       module _ (i : ℕ) (li : i < x.used) (h : base_x + i < n) where
         classes_tell : (p q : ℕ) → p < i → q < j → same_class classes base_x p base_y q ≡ same_term (term_in x p) (term_in y q)
         unfolding same_class
@@ -83,16 +87,16 @@ module _ (a b : Side) where
             rw (known_at (base_x + p) (omega arith), known_at (base_y + q) (omega arith))
             (same_class_lem term (base_x + p) (base_y + q) ∙ ap₂ same_term (lx.at p (omega arith)) (ly.at q (omega arith)))
 
-        same_test : same_row classes (rows_in x base_x i) (placed y.message base_y r) ≡ same_term (term (base_x + i)) (term n)
+        same_test : same_row classes (rows_in x base_x i) (rows_in y base_y j) ≡ same_term (term (base_x + i)) (term n)
         same_test =
-            rw (e, read x lx.ok i li, read y ly.ok j lj)
+            rw (read x lx.ok i li, read y ly.ok j lj)
             (row_same x y lx.ok ly.ok classes base_x base_y i j li lj classes_tell ∙ ap₂ same_term (sym (lx.at i li)) (sym (ly.at j lj) ∙ ap term own))
 
-        test : leads classes (rows_in x base_x) (placed y.message base_y r) i ≡ leading (base_x + i)
+        test : leads classes (rows_in x base_x) (rows_in y base_y j) i ≡ leading (base_x + i)
         unfolding leads
         test = ap₂ ◌&&◌ (ap (λ (c : ℕ). eqb c (base_x + i)) (known_at (base_x + i) h)) same_test
 
-      found_in : (count : ℕ) → count ≤ x.used → base_x + count ≤ n → first_below (leads classes (rows_in x base_x) (placed y.message base_y r)) count ≡ first_below (λ i. leading (base_x + i)) count
+      found_in : (count : ℕ) → count ≤ x.used → base_x + count ≤ n → first_below (leads classes (rows_in x base_x) (rows_in y base_y j)) count ≡ first_below (λ i. leading (base_x + i)) count
       found_in count l h = same_first _ _ count (λ i g. test i (omega arith) (omega arith))
 
     -- the first side's rows lie from 0 on
@@ -107,22 +111,22 @@ module _ (a b : Side) where
       lies_second = record { ok = ok_b; at = λ i l. in_second i }
 
       -- row n is of the first side
-      pub in_own_side : n < a.used → (r : Row) → r ≡ row_in a.words n → (c : ℕ) → c ≡ 0 + first_below (leads classes (rows_in a 0) (placed a.message 0 r)) n → c ≡ row_class term n
-      in_own_side l r e c q =
-          q ∙ zero-add _ ∙ found_in a a 0 0 lies_first lies_first n l (zero-add n) r e n (omega arith) (omega arith) ∙ from_zero n ∙ sym class_as
+      pub in_own_side : n < a.used → (c : ℕ) → c ≡ 0 + first_below (leads classes (rows_in a 0) (rows_in a 0 n)) n → c ≡ row_class term n
+      in_own_side l c q =
+          q ∙ zero-add _ ∙ found_in a a 0 0 lies_first lies_first n l (zero-add n) n (omega arith) (omega arith) ∙ from_zero n ∙ sym class_as
 
       -- row n is of the second side: it is looked for in the first, and then in its own
-      module _ (j : ℕ) (lj : j < b.used) (own : a.used + j ≡ n) (r : Row) (e : r ≡ row_in b.words j) (c : ℕ)
-          (q : c ≡ 0 + first_below (leads classes (rows_in a 0) (placed b.message a.used r)) a.used) where
+      module _ (j : ℕ) (lj : j < b.used) (own : a.used + j ≡ n) (c : ℕ)
+          (q : c ≡ 0 + first_below (leads classes (rows_in a 0) (rows_in b a.used j)) a.used) where
         among : c ≡ first_below leading a.used
-        among = q ∙ zero-add _ ∙ found_in a b 0 a.used lies_first lies_second j lj own r e a.used (omega arith) (omega arith) ∙ from_zero a.used
+        among = q ∙ zero-add _ ∙ found_in a b 0 a.used lies_first lies_second j lj own a.used (omega arith) (omega arith) ∙ from_zero a.used
 
         pub in_other_side : c < a.used → c ≡ row_class term n
         in_other_side h = among ∙ sym (class_as ∙ ap (first_below leading) (sym own) ∙ first-left leading a.used j (omega (arith, among)))
 
-        pub in_second_side : a.used ≤ c → (d : ℕ) → d ≡ a.used + first_below (leads classes (rows_in b a.used) (placed b.message a.used r)) j → d ≡ row_class term n
+        pub in_second_side : a.used ≤ c → (d : ℕ) → d ≡ a.used + first_below (leads classes (rows_in b a.used) (rows_in b a.used j)) j → d ≡ row_class term n
         in_second_side h d p =
-            p ∙ ap (λ (m : ℕ). a.used + m) (found_in b b a.used a.used lies_second lies_second j lj own r e j (omega arith) (omega arith))
+            p ∙ ap (λ (m : ℕ). a.used + m) (found_in b b a.used a.used lies_second lies_second j lj own j (omega arith) (omega arith))
             ∙ sym (class_as ∙ ap (first_below leading) (sym own) ∙ first-right leading a.used j (omega (arith, among)))
 
   -- the classes of the roots tell whether the tables' terms are the same

@@ -3,3 +3,4 @@ pub mod Answers
 -- the class of each row, and how two rows are compared by classes
 pub mod Classes
 pub mod Same
+pub mod Sides

@@ -1,19 +1,21 @@
 //! The comparison: whether the plain texts of two row tables' roots are the same bytes, on the shared rows, in lent memory alone.
 #![tactic(auto)]
 
-ghost use Rattle.std.specs.Prelude.{◌≡◌, ◌+◌, ◌≤◌, T, length};
+ghost use Rattle.std.specs.Prelude.{◌≡◌, ◌+◌, ◌≤◌, ◌<◌, length};
 ghost use Rattle.format.specs.Answer.{zeroed, compare_answer};
 ghost use Rattle.format.specs.Bound.{message_bound};
-ghost use Rattle.format.specs.Sound.{sound_table};
 ghost use Rattle.comparison.specs.Answers.{compared_as};
-ghost use Rattle.comparison.specs.Classes.{side, term_in, same_term};
+ghost use Rattle.comparison.specs.Classes.{term_in, same_term};
+ghost use Rattle.comparison.specs.Sides.{side_of};
 
+use crate::side::Side;
 use format::refusal::Refusal;
 use format::{Row, bound};
 
 mod classes;
 mod same;
 mod search;
+mod side;
 
 // The number of a row over both sides: the first side's rows come first, the second side's after them.
 #[derive(Clone, Copy)]
@@ -26,24 +28,14 @@ fn rows_of_both(used_a: u32, used_b: u32) -> usize
     (used_a as usize) + (used_b as usize)
 }
 
-// Whether the roots of two sound tables have the same class. `joint` has a word for each row of both sides, and is left with their classes.
-fn same_roots(
-    message_a: &[u8],
-    rows_a: &[u32],
-    used_a: u32,
-    root_a: Row,
-    message_b: &[u8],
-    rows_b: &[u32],
-    used_b: u32,
-    root_b: Row,
-    joint: &mut [u32],
-) -> bool
-    requires bounds { (length message_a.now ≤ message_bound) × (length message_b.now ≤ message_bound) × (used_a + used_b ≡ length joint.old) }
-    requires sound { T (sound_table message_a.now rows_a.now used_a root_a.0) × T (sound_table message_b.now rows_b.now used_b root_b.0) }
-    ensures { result ≡ same_term (term_in (side message_a.now rows_a.now used_a) root_a.0) (term_in (side message_b.now rows_b.now used_b) root_b.0) }
+// Whether two rows of sound tables have the same class. `joint` has a word for each row of both sides, and is left with their classes.
+fn same_roots(a: Side, root_a: Row, b: Side, root_b: Row, joint: &mut [u32]) -> bool
+    requires among { (root_a.0 < a.used) × (root_b.0 < b.used) }
+    requires room { a.used + b.used ≡ length joint.old }
+    ensures { result ≡ same_term (term_in (side_of a.entry) root_a.0) (term_in (side_of b.entry) root_b.0) }
 {
-    classes::number_classes(message_a, rows_a, used_a, message_b, rows_b, used_b, joint);
-    same::same_class(joint, 0, root_a, used_a, root_b)
+    classes::number_classes(a, b, joint);
+    same::same_class(joint, 0, root_a, a.used, root_b)
 }
 
 // Compares two tables where they are sound. The scratch, which has a word for each row used on both sides, is left as the numbering leaves it.
@@ -67,18 +59,18 @@ fn compare_tables(
     if !sound::sound_table(message_b, rows_b, used_b, root_b) {
         return Err(Refusal::Unsound);
     }
+    let a = Side {
+        message: message_a,
+        rows: rows_a,
+        used: used_a,
+    };
+    let b = Side {
+        message: message_b,
+        rows: rows_b,
+        used: used_b,
+    };
     let n = rows_of_both(used_a, used_b);
-    let same = same_roots(
-        message_a,
-        rows_a,
-        used_a,
-        root_a,
-        message_b,
-        rows_b,
-        used_b,
-        root_b,
-        &mut scratch[..n],
-    );
+    let same = same_roots(a, root_a, b, root_b, &mut scratch[..n]);
     Ok(same)
 }
 

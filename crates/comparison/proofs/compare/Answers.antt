@@ -1,21 +1,18 @@
 -- `comparison::compare` meets its contract: 1, 2, or what the rest answers, with the scratch cleared.
 use native.Mathlib.Omega.{arith}
-use Rattle.comparison.proofs.Answered.{over_first, over-second, short-scratch, cleared}
+use Rattle.comparison.proofs.Answered as laws
 use Rattle.comparison.proofs.compare.Goals as goal
 
 pub returns-then-message_a-gt-MESSAGE_BYTES : goal.returns-then-message_a-gt-MESSAGE_BYTES
-returns-then-message_a-gt-MESSAGE_BYTES c =
-    over_first _ _ _ _ _ _ _ _ _ c.if-message_a-gt-MESSAGE_BYTES.true
+returns-then-message_a-gt-MESSAGE_BYTES c = laws.over_first _ _ _ _ _ _ _ _ _ c.if-message_a-gt-MESSAGE_BYTES.true
 
 pub returns-then-message_b-gt-MESSAGE_BYTES : goal.returns-then-message_b-gt-MESSAGE_BYTES
 returns-then-message_b-gt-MESSAGE_BYTES c =
-    over-second _ _ _ _ _ _ _ _ _ c.if-message_a-gt-MESSAGE_BYTES.false c.if-message_b-gt-MESSAGE_BYTES.true
+    laws.over-second _ _ _ _ _ _ _ _ _ c.if-message_a-gt-MESSAGE_BYTES.false c.if-message_b-gt-MESSAGE_BYTES.true
 
 pub returns-then-scratch-rows_of_both : goal.returns-then-scratch-rows_of_both
 returns-then-scratch-rows_of_both c =
-    short-scratch _ _ _ _ _ _ _ _ _ c.if-message_a-gt-MESSAGE_BYTES.false c.if-message_b-gt-MESSAGE_BYTES.false (omega arith)
+    laws.short-scratch _ _ _ _ _ _ _ _ _ c.if-message_a-gt-MESSAGE_BYTES.false c.if-message_b-gt-MESSAGE_BYTES.false (omega arith)
 
 pub returns : goal.returns
-returns c =
-    let told = c.compare_tables-answer in
-    cleared _ _ _ _ _ _ _ _ _ _ _ _ told.auto.scratch c.clear.ensures told.ensures
+returns c = let told = c.compare_tables-answer in laws.cleared _ _ _ _ _ _ _ _ _ _ _ _ told.auto.scratch c.clear.ensures told.ensures

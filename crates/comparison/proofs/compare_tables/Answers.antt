@@ -1,37 +1,36 @@
 -- `comparison::compare_tables` meets its contract: 16, or what the classes of the roots tell.
-use mathlib.Core.Path.{sym, subst, ◌∙◌}
-use lib.Dec.{T}
-use lib.Seq.{length-take-le}
-use Rattle.comparison.proofs.Answered.{unsound-first, unsound-second, compared}
+use mathlib.Core.Path.{sym, ◌∙◌}
+use Rattle.comparison.specs.Classes.{side}
+use Rattle.comparison.proofs.Answered as laws
+use Rattle.comparison.proofs.Searches.{sound-side, root-among}
 use Rattle.comparison.proofs.compare_tables.Goals as goal
 
 pub returns-then-not-sound_table : goal.returns-then-not-sound_table
 returns-then-not-sound_table c =
     let p = c.requires in
-    unsound-first _ _ _ _ _ _ _ _ _ p.0 p.1 p.2 (sym c.sound_table.ensures ∙ c.if-not-sound_table.true)
+    laws.unsound-first _ _ _ _ _ _ _ _ _ p.0 p.1 p.2 (sym c.sound_table.ensures ∙ c.if-not-sound_table.true)
 
 pub returns-then-not-sound_table-2 : goal.returns-then-not-sound_table-2
 returns-then-not-sound_table-2 c =
     let p = c.requires in
-    let sound_a = sym c.sound_table.ensures ∙ c.if-not-sound_table.false in
-    unsound-second _ _ _ _ _ _ _ _ _ p.0 p.1 p.2 sound_a (sym c.sound_table-2.ensures ∙ c.if-not-sound_table-2.true)
+    laws.unsound-second _ _ _ _ _ _ _ _ _ p.0 p.1 p.2 (sym c.sound_table.ensures ∙ c.if-not-sound_table.false) (sym c.sound_table-2.ensures ∙ c.if-not-sound_table-2.true)
 
-pub slice_bounds-same_roots-end-2 : goal.slice_bounds-same_roots-end-2
-slice_bounds-same_roots-end-2 c = sym (length-take-le _ _ (rw c.rows_of_both-n.ensures c.requires.2))
+pub invariant_of-a : goal.invariant_of-a
+invariant_of-a c =
+    record { sound = sound-side (side c.args.message_a.now c.args.rows_a.now c.args.used_a) _ (sym c.sound_table.ensures ∙ c.if-not-sound_table.false) c.requires.0 }
 
-pub same_roots-same-requires : goal.same_roots-same-requires
-same_roots-same-requires c =
-    let p = c.requires in
-    let sound_a = sym c.sound_table.ensures ∙ c.if-not-sound_table.false in
-    let sound_b = sym c.sound_table-2.ensures ∙ c.if-not-sound_table-2.false in
-    record {
-      bounds = (p.0, p.1, sym (length-take-le _ _ (rw c.rows_of_both-n.ensures p.2) ∙ c.rows_of_both-n.ensures));
-      sound = (subst T (sym sound_a) tt, subst T (sym sound_b) tt);
-    }
+pub invariant_of-b : goal.invariant_of-b
+invariant_of-b c =
+    record { sound = sound-side (side c.args.message_b.now c.args.rows_b.now c.args.used_b) _ (sym c.sound_table-2.ensures ∙ c.if-not-sound_table-2.false) c.requires.1 }
+
+pub same_roots-same-requires-clause-among : goal.same_roots-same-requires-clause-among
+same_roots-same-requires-clause-among c = (
+  root-among (side c.args.message_a.now c.args.rows_a.now c.args.used_a) _ (sym c.sound_table.ensures ∙ c.if-not-sound_table.false),
+  root-among (side c.args.message_b.now c.args.rows_b.now c.args.used_b) _ (sym c.sound_table-2.ensures ∙ c.if-not-sound_table-2.false),
+)
 
 pub returns : goal.returns
 returns c =
     let p = c.requires in
-    let sound_a = sym c.sound_table.ensures ∙ c.if-not-sound_table.false in
-    let sound_b = sym c.sound_table-2.ensures ∙ c.if-not-sound_table-2.false in
-    compared _ _ _ _ _ _ _ _ _ p.0 p.1 p.2 sound_a sound_b _ c.same_roots-same.ensures
+    laws.compared _ _ _ _ _ _ _ _ _ p.0 p.1 p.2 (sym c.sound_table.ensures ∙ c.if-not-sound_table.false) (sym c.sound_table-2.ensures ∙ c.if-not-sound_table-2.false)
+    _ c.same_roots-same.ensures

@@ -3,25 +3,21 @@ use mathlib.Core.Path.{sym, ◌∙◌}
 use native.Mathlib.Omega.{arith}
 use Rattle.comparison.proofs.Tested as laws
 use Rattle.comparison.proofs.search.first_same.Goals as goal
+use Rattle.comparison.proofs.search.first_same.Goals.{then-classes-n+else-same_row, else-classes-n}
 
 pub loop-i-init : goal.loop-i-init
-loop-i-init c = (omega arith, λ k l. absurd (omega arith))
-
-pub same_row-requires : goal.same_row-requires
-same_row-requires c = (laws.read-inside c.args.message_x.now c.args.base_x c.load_row-x.ensures (c.requires.spans_inside.0 _ c.loop-i-test.true), c.requires.spans_inside.1)
+loop-i-init c = λ k l. absurd (omega arith)
 
 pub returns-then-same_row : goal.returns-then-same_row
 returns-then-same_row c =
-    let same = sym c.same_row.ensures ∙ c.if-same_row.true in
-    laws.agrees _ _ _ _ _ _ c.loop-i.invariant.1 c.if-classes-n.true _ c.load_row-x.ensures _ c.loop-i-test.true same
-
-pub loop-i-preserved-else-same_row : goal.loop-i-preserved-else-same_row
-loop-i-preserved-else-same_row c =
-    let other = sym c.same_row.ensures ∙ c.if-same_row.false in
-    (omega arith, laws.differs _ _ _ _ _ _ c.loop-i.invariant.1 c.if-classes-n.true _ c.load_row-x.ensures other)
+    laws.agrees _ _ _ _ _ _ c.loop-i.invariant c.if-classes-n.true _ c.row_at.ensures _ c.loop-i-test.true (sym c.same_row.ensures ∙ c.if-same_row.true)
 
 pub loop-i-preserved : goal.loop-i-preserved
-loop-i-preserved c = (omega arith, laws.follows _ _ _ _ _ _ c.loop-i.invariant.1 c.if-classes-n.false)
+loop-i-preserved c =
+    elim c.if-classes-n.branch [
+      | then-classes-n+else-same_row w ↦ laws.differs _ _ _ _ _ _ c.loop-i.invariant w.if-classes-n.true _ w.row_at.ensures (sym w.same_row.ensures ∙ w.if-same_row.false)
+      | else-classes-n w ↦ laws.follows _ _ _ _ _ _ c.loop-i.invariant w.if-classes-n.false
+    ]
 
 pub returns : goal.returns
-returns c = laws.misses _ _ _ _ _ _ _ (omega arith) c.loop-i-test.false c.loop-i.invariant.1
+returns c = laws.misses _ _ _ _ _ _ _ c.loop-i.auto.i-end c.loop-i-test.false c.loop-i.invariant
