@@ -8,7 +8,7 @@ use native.Mathlib.Numerals.{add-one}
 use native.Mathlib.Omega.{arith}
 use lib.ListN.{length, get_or, take, drop, length-drop}
 use lib.Seq.{length-take-le}
-use Rattle.std.specs.Prelude.{Ok, Err}
+use Rattle.std.specs.Prelude.{Result, Ok, Err}
 use Rattle.std.specs.declared.ops.ControlFlow.TheVariants.{Continue}
 use Rattle.format.specs.Lex as L
 use Rattle.format.specs.Lex.{Item, Scan, scan, quoted, quoted_item, atom_item, string_item, tag_item, comment_item}
@@ -17,6 +17,7 @@ use Rattle.format.specs.Machine.{base, step}
 use Rattle.format.specs.Rows.{row, row_values, make_rows, add, atom_kind, string_kind, tag_kind, span_row, tag_row}
 use Rattle.format.specs.Answer.{Tables, tables}
 use Rattle.format.specs.declared.Offset.{Offset}
+use Rattle.format.specs.declared.refusal.Refused.{Refused}
 use Rattle.format.proofs.Items.{ItemOk, quoted-ok}
 use Rattle.table.specs.Words.{last_first}
 use Rattle.lexer.specs.Quoted.{escaped_after, scanned, quoted_from}
@@ -24,7 +25,7 @@ use Rattle.lexer.specs.declared.quoted.Quoted.{Quoted}
 use Rattle.lexer.specs.declared.quoted.Unclosed.{Unclosed}
 use Rattle.machine.specs.declared.state.State.{State}
 use Rattle.machine.specs.Held.{Ready, Spans, stops, machine_of, turn, limited, taken, with_row, made}
-use Rattle.literals.specs.Readers.{unclosed_as}
+use Rattle.literals.specs.Readers.{unclosed_as, closed_as}
 use Rattle.machine.proofs.Limits.{refused-step}
 use Rattle.machine.proofs.Pops.{pop-few, pop-top}
 use Rattle.machine.proofs.Passes.{passes}
@@ -63,11 +64,16 @@ module _ (quote at : ℕ) (r : List ℕ) where
 pub shorter : (quote at : ℕ) (message : List ℕ) (n : ℕ) (end : Offset) → quoted_from quote false (at + 1) (drop (at + 1) message) ≡ Ok (record { count = n; end = end }) → n < length message
 shorter quote at message n end e = omega (arith, closed-inside quote at (drop (at + 1) message) n end e, length-drop (at + 1) message)
 
+-- what is no refusal is what the reader answers
+pub was-closed : (x : Result Quoted Unclosed) (ended : Offset) (y : Quoted) → closed_as x ended ≡ Ok y → x ≡ Ok y
+was-closed (Ok z) ended y e = let same : z ≡ y = cc in rw same refl
+was-closed (Err why) ended y e = cc
+
 -- the refusal of text that is not closed
 module _ (quote : ℕ) (t : Tables) (s : State) (r : List ℕ) (item : ℕ → Item) (ended : Offset) (last : ended.0 ≡ suc s.at.0 + length r) where
-  pub unclosed : (why : Unclosed) → quoted_from quote false (s.at.0 + 1) r ≡ Err why → turn (Err (unclosed_as why ended)) t ≡ taken t s r (quoted quote item r)
+  refused-text : (why : Unclosed) → quoted_from quote false (s.at.0 + 1) r ≡ Err why → turn (Err (unclosed_as why ended)) t ≡ taken t s r (quoted quote item r)
   unfolding quoted_from scanned unclosed_as turn taken quoted quoted_item step
-  unclosed why e = by (scan quote false 0 r) why e
+  refused-text why e = by (scan quote false 0 r) why e
     where
       by : (x : Scan) (why : Unclosed) → scanned (s.at.0 + 1) (escaped_after false r) x ≡ Err why → turn (Err (unclosed_as why ended)) t ≡ limited t s (step row_values s.at.0 r (machine_of t s) (quoted_item item x))
       by L.ended (Unclosed.Ended escaped) f = rw last (sym (refused-step t s 3 (suc s.at.0 + length r)))
@@ -78,6 +84,15 @@ module _ (quote : ℕ) (t : Tables) (s : State) (r : List ℕ) (item : ℕ → I
           rw (← same, place) (sym (refused-step t s 4 (s.at.0 + suc k)))
       by (L.stray_at k) (Unclosed.Ended escaped) f = cc
       by (L.closed_at k) why f = cc
+
+  pub unclosed : (e : Refused) → closed_as (quoted_from quote false (s.at.0 + 1) r) ended ≡ Err e → turn (Err e) t ≡ taken t s r (quoted quote item r)
+  unclosed e f = by (quoted_from quote false (s.at.0 + 1) r) refl f
+    where
+      by : (x : Result Quoted Unclosed) → quoted_from quote false (s.at.0 + 1) r ≡ x → closed_as x ended ≡ Err e → turn (Err e) t ≡ taken t s r (quoted quote item r)
+      by (Ok y) g f = cc
+      by (Err why) g f =
+          let same : unclosed_as why ended ≡ e = cc in
+          rw (← same) (refused-text why g)
 
 module _ (rows stack marks registers : List ℕ) (s : State) (r : List ℕ) (n : ℕ) (end : Offset) where
   -- an atom or a string

@@ -8,6 +8,7 @@ use Rattle.lexer.specs.Integer.{with_sign}
 use Rattle.lexer.specs.declared.integer.Begun.{Begun}
 use Rattle.lexer.specs.declared.integer.Begun.TheVariants.{Minus, Digits}
 use Rattle.lexer.specs.declared.integer.NoInteger.{NoInteger}
+use Rattle.lexer.specs.declared.quoted.Quoted.{Quoted}
 use Rattle.lexer.specs.declared.quoted.Unclosed.{Unclosed}
 use Rattle.format.specs.declared.refusal.Refusal.{Refusal}
 use Rattle.format.specs.declared.refusal.Refusal.TheVariants.{Cut, Stray, OutOfRange, WrongKind, Negative}
@@ -17,6 +18,11 @@ use Rattle.format.specs.declared.refusal.Refused.{Refused}
 unfoldable pub unclosed_as : Unclosed → Offset → Refused
 unclosed_as (Unclosed.Stray p) ended = record { refusal = Stray; place = p }
 unclosed_as (Unclosed.Ended escaped) ended = record { refusal = Cut; place = ended }
+
+-- quoted text, or its refusal
+abbrev pub closed_as : Result Quoted Unclosed → Offset → Result Quoted Refused
+closed_as (Ok q) ended = Ok q
+closed_as (Err why) ended = Err (unclosed_as why ended)
 
 -- the refusal where no integer is read at `at`
 unfoldable pub no_integer_as : NoInteger → Offset → Offset → Refused

@@ -1,10 +1,11 @@
 //! Quoted text: atoms, strings, comments and tags.
-ghost use Rattle.std.specs.Prelude.{◌≡◌, List, ℕ, ◌+◌, ◌≤◌, ◌<◌, length, drop};
+ghost use Rattle.std.specs.Prelude.{◌≡◌, List, ℕ, ◌+◌, ◌≤◌, ◌<◌, false, length, drop};
+ghost use Rattle.lexer.specs.Quoted.{quoted_from};
 ghost use Rattle.format.specs.Bound.{message_bound};
 ghost use Rattle.format.specs.Lex.{Item, quoted};
 ghost use Rattle.format.specs.Answer.{Tables, tables};
 ghost use Rattle.machine.specs.Held.{Ready, Spans, turn, taken};
-ghost use Rattle.literals.specs.Readers.{unclosed_as, tag_text, comment_text};
+ghost use Rattle.literals.specs.Readers.{unclosed_as, closed_as, tag_text, comment_text};
 
 use format::refusal::{Refusal, Refused};
 use format::{Depth, Offset, byte, kind};
@@ -26,6 +27,26 @@ fn unclosed(why: Unclosed, ended: Offset) -> Refused
     Refused { refusal, place }
 }
 
+// Text up to its closing quote, or the refusal of text that is not closed.
+fn closed_text(message: &[u8], from: Offset, quote: u8) -> Result<Quoted, Refused>
+    ensures { result ≡ closed_as (quoted_from quote false from.0 (drop from.0 message.now)) (record { 0 = length message.now }) }
+{
+    match quoted::read_quoted(message, from, quote, false) {
+        Ok(quoted) => Ok(quoted),
+        Err(why) => Err(unclosed(why, Offset(message.len()))),
+    }
+}
+
+// The same for text that mostly is a short name.
+fn closed_name(message: &[u8], from: Offset, quote: u8) -> Result<Quoted, Refused>
+    ensures { result ≡ closed_as (quoted_from quote false from.0 (drop from.0 message.now)) (record { 0 = length message.now }) }
+{
+    match quoted::read_name(message, from, quote) {
+        Ok(quoted) => Ok(quoted),
+        Err(why) => Err(unclosed(why, Offset(message.len()))),
+    }
+}
+
 // An atom or a string.
 pub fn quoted_item(
     message: &[u8],
@@ -40,11 +61,7 @@ pub fn quoted_item(
 {
     let start = s.at.0 + 1;
     let depth = s.depth;
-    let read = quoted::read_quoted(message, Offset(start), quote, false);
-    let Quoted { count, end } = match read {
-        Ok(quoted) => quoted,
-        Err(why) => return Err(unclosed(why, Offset(message.len()))),
-    };
+    let Quoted { count, end } = closed_text(message, Offset(start), quote)?;
     value::push_value(
         rows,
         stack,
@@ -67,11 +84,7 @@ pub fn comment_item(message: &[u8], s: State) -> Answer
 {
     let next = s.next;
     let depth = s.depth;
-    let read = quoted::read_quoted(message, Offset(s.at.0 + 1), byte::COMMENT_QUOTE, false);
-    let Quoted { end, .. } = match read {
-        Ok(quoted) => quoted,
-        Err(why) => return Err(unclosed(why, Offset(message.len()))),
-    };
+    let Quoted { end, .. } = closed_text(message, Offset(s.at.0 + 1), byte::COMMENT_QUOTE)?;
     Ok(ControlFlow::Continue(State {
         at: end,
         next,
@@ -95,11 +108,7 @@ pub fn tag_item(
 {
     let start = s.at.0 + 1;
     let depth = s.depth;
-    let read = quoted::read_name(message, Offset(start), byte::TAG_QUOTE);
-    let Quoted { count, end } = match read {
-        Ok(quoted) => quoted,
-        Err(why) => return Err(unclosed(why, Offset(message.len()))),
-    };
+    let Quoted { count, end } = closed_name(message, Offset(start), byte::TAG_QUOTE)?;
     state::need_values(marks, s, 1)?;
     let inner = state::top(stack, depth);
     value::push_value(
