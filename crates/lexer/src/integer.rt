@@ -115,6 +115,7 @@ fn read_long(message: &[u8], from: Offset, negative: bool, v: u64) -> Result<Int
 }
 
 // Reads digits on from `from`, with no sign before them. While their value is small, no digit can bring it out of range.
+// A `while`, since a `for` over the places took 12 instructions in a hundred more on messages of short integers.
 fn read_short(message: &[u8], from: Offset, v: u64) -> Result<Integer, NoInteger>
     requires { v ≤ small }
     ensures { result ≡ integer_from (Begun.Digits false v) from.0 (drop from.0 message.now) }

@@ -71,7 +71,7 @@ was-closed (Err why) ended y e = cc
 
 -- the refusal of text that is not closed
 module _ (quote : ℕ) (t : Tables) (s : State) (r : List ℕ) (item : ℕ → Item) (ended : Offset) (last : ended.0 ≡ suc s.at.0 + length r) where
-  refused-text : (why : Unclosed) → quoted_from quote false (s.at.0 + 1) r ≡ Err why → turn (Err (unclosed_as why ended)) t ≡ taken t s r (quoted quote item r)
+  pub refused-text : (why : Unclosed) → quoted_from quote false (s.at.0 + 1) r ≡ Err why → turn (Err (unclosed_as why ended)) t ≡ taken t s r (quoted quote item r)
   unfolding quoted_from scanned unclosed_as turn taken quoted quoted_item step
   refused-text why e = by (scan quote false 0 r) why e
     where

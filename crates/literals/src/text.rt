@@ -37,16 +37,6 @@ fn closed_text(message: &[u8], from: Offset, quote: u8) -> Result<Quoted, Refuse
     }
 }
 
-// The same for text that mostly is a short name.
-fn closed_name(message: &[u8], from: Offset, quote: u8) -> Result<Quoted, Refused>
-    ensures { result ≡ closed_as (quoted_from quote false from.0 (drop from.0 message.now)) (record { 0 = length message.now }) }
-{
-    match quoted::read_name(message, from, quote) {
-        Ok(quoted) => Ok(quoted),
-        Err(why) => Err(unclosed(why, Offset(message.len()))),
-    }
-}
-
 // An atom or a string.
 pub fn quoted_item(
     message: &[u8],
@@ -108,7 +98,12 @@ pub fn tag_item(
 {
     let start = s.at.0 + 1;
     let depth = s.depth;
-    let Quoted { count, end } = closed_name(message, Offset(start), byte::TAG_QUOTE)?;
+    // a function for these lines, with `?`, took 10 instructions more a tag
+    let read = quoted::read_name(message, Offset(start), byte::TAG_QUOTE);
+    let Quoted { count, end } = match read {
+        Ok(quoted) => quoted,
+        Err(why) => return Err(unclosed(why, Offset(message.len()))),
+    };
     state::need_values(marks, s, 1)?;
     let inner = state::top(stack, depth);
     value::push_value(

@@ -9,19 +9,19 @@ use Rattle.machine.proofs.Passes.{rest-ends}
 use Rattle.literals.proofs.Spans as laws
 use Rattle.literals.proofs.text.tag_item.Goals as goal
 
-pub returns-in_err-count : goal.returns-in_err-count
-returns-in_err-count c rg _ = passed_up _ _ _ c.from_residual.ensures.1 (laws.unclosed (code "`") (tables _ _ _ rg) _ _ tag_item _ (rest-ends _ _ (omega arith)) _ (sym c.in_err-count.ensures))
+pub returns-in-Err : goal.returns-in-Err
+returns-in-Err c rg _ = rw c.unclosed.ensures (laws.refused-text (code "`") (tables _ _ _ rg) _ _ tag_item _ (rest-ends _ _ (omega arith)) _ (sym c.read_name-read.ensures ∙ c.in-Err.is))
 
 pub returns-in_err-need_values : goal.returns-in_err-need_values
 returns-in_err-need_values c rg _ =
-    passed_up _ _ _ c.from_residual-in_err-need_values.ensures.1
-    (refusal c.in_err-need_values.ensures.1 (laws.tag-few _ _ _ rg _ _ _ _ (laws.was-closed _ _ _ (sym c.in_ok-count.ensures)) (omega (arith, c.in_err-need_values.ensures.0))))
+    passed_up _ _ _ c.from_residual.ensures.1
+    (refusal c.in_err-need_values.ensures.1 (laws.tag-few _ _ _ rg _ _ _ _ (sym c.read_name-read.ensures ∙ c.in-Ok.is) (omega (arith, c.in_err-need_values.ensures.0))))
 
 pub overflow_cast-count : goal.overflow_cast-count
-overflow_cast-count c = omega (arith, laws.shorter _ _ _ _ _ (laws.was-closed _ _ _ (sym c.in_ok-count.ensures)))
+overflow_cast-count c = omega (arith, laws.shorter _ _ _ _ _ (sym c.read_name-read.ensures ∙ c.in-Ok.is))
 
 pub returns : goal.returns
 returns c rg h =
-    let closed = laws.was-closed _ _ _ (sym c.in_ok-count.ensures) in
+    let closed = sym c.read_name-read.ensures ∙ c.in-Ok.is in
     c.push_value.ensures _ rg _ h (omega arith) (laws.closed _ _ _ _ _ closed).1
     ∙ laws.tag-made _ _ _ rg _ _ _ _ closed (omega (arith, c.in_ok-need_values.ensures)) _ c.top-inner.ensures
