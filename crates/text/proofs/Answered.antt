@@ -89,7 +89,8 @@ module _ (message words : List ℕ) (used root : ℕ) (scratch output : List ℕ
         unfolding write_answer over_bound sound_table write_rows
         by_rows e a left q =
             let taken = rw (length-take-le used scratch u) at q in
-            rw (le-ltb message_bound (length message) h, le-ltb (length scratch) used u, count, e) (taken ∙ either_way (sound_rows message (rows_of used words)) _ _)
+            rw (le-ltb message_bound (length message) h, le-ltb (length scratch) used u, count, e)
+            (taken ∙ either_way (sound_rows message (rows_of used words)) _ _)
 
   -- the scratch cleared at the end, whatever it holds by then
   pub cleared : (a : Result ℕ Refusal) (after left end : List ℕ) → length after ≡ length scratch → end ≡ zeroed after

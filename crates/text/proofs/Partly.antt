@@ -14,7 +14,8 @@ module _ (output : List ℕ) (at : ℕ) (text : List ℕ) where
   part_none = record { onward = omega arith; count = refl; bytes = refl }
 
   -- a part, and then a part of what was left
-  pub part_then : {output' output'' text' text'' : List ℕ} {at' at'' : ℕ} → Partly output at text output' at' text' → Partly output' at' text' output'' at'' text''
+  pub part_then : {output' output'' text' text'' : List ℕ} {at' at'' : ℕ}
+      → Partly output at text output' at' text' → Partly output' at' text' output'' at'' text''
       → Partly output at text output'' at'' text''
   part_then p q = record {
     onward = omega (arith, p.onward, q.onward);
@@ -23,7 +24,8 @@ module _ (output : List ℕ) (at : ℕ) (text : List ℕ) where
   }
 
   -- there is room for what is left
-  pub part_room : {output' text' : List ℕ} {at' : ℕ} → Partly output at text output' at' text' → length output' ≡ length output → at + length text ≤ length output
+  pub part_room : {output' text' : List ℕ} {at' : ℕ} → Partly output at text output' at' text'
+      → length output' ≡ length output → at + length text ≤ length output
       → at' + length text' ≤ length output'
   part_room p k h = omega (arith, p.count)
 

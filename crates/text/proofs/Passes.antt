@@ -17,7 +17,7 @@ use Rattle.text.proofs.Frames.{above-inside}
 use Rattle.text.proofs.Turned.{Turned}
 
 -- the top frame of a stack, and those below it
-top-first : (stack : List ℕ) (frames : ℕ) → 0 < frames → last_first stack frames ≡ get_or stack (frames - 1) 0 ∷ last_first stack (frames - 1)
+pub top-first : (stack : List ℕ) (frames : ℕ) → 0 < frames → last_first stack frames ≡ get_or stack (frames - 1) 0 ∷ last_first stack (frames - 1)
 unfolding last_first
 top-first stack frames h = let e : frames ≡ suc (frames - 1) = omega arith in ap (last_first stack) e
 

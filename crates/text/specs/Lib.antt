@@ -4,3 +4,5 @@ pub mod Answers
 pub mod Rows
 -- the walk over the rows, from leaf to leaf
 pub mod Walk
+-- a stack of words
+pub mod Stack

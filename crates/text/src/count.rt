@@ -2,31 +2,31 @@
 //! The message is what the rows are sound against; its bytes are not looked at.
 ghost use Rattle.std.specs.Prelude.{◌≡◌, ◌∷◌, ◌++◌, ◌+◌, ◌≤◌, ◌<◌, leb, length};
 ghost use Rattle.format.specs.Text.{plain};
-ghost use Rattle.table.specs.Words.{row_of, last_first};
+ghost use Rattle.table.specs.Words.{row_of};
 ghost use Rattle.measure.specs.Lengths.{named};
 ghost use Rattle.text.specs.Rows.{term_of};
+ghost use Rattle.text.specs.Stack.{on_stack, room_on};
 
 use crate::rows::Table;
+use crate::stack::Stack;
 use format::{Row, kind};
 use measure::length;
 use table::RowWords;
 
-// Puts the rows that a row names in place of the top, and answers how many rows then lie on the stack.
-fn put_named(stack: &mut [u32], top: usize, words: RowWords) -> usize
-    requires { top + length (named (row_of words)) ≤ length stack.old }
-    ensures { last_first stack.new result ≡ named (row_of words) ++ last_first stack.old top }
+// Puts the rows that a row names on the stack.
+fn push_named(stack: &mut Stack, words: RowWords)
+    requires { length (on_stack stack.old) + length (named (row_of words)) ≤ room_on stack.old }
+    ensures same_words { stack.new.words.ghost_name ≡ stack.old.words.ghost_name }
+    ensures same_room { room_on stack.new ≡ room_on stack.old }
+    ensures pushed { on_stack stack.new ≡ named (row_of words) ++ on_stack stack.old }
 {
     match words.kind {
         kind::CONS | kind::FIELD => {
-            stack[top] = words.second;
-            stack[top + 1] = words.first;
-            top + 2
+            stack.push(words.second);
+            stack.push(words.first);
         }
-        kind::TAG => {
-            stack[top] = words.third;
-            top + 1
-        }
-        _ => top,
+        kind::TAG => stack.push(words.third),
+        _ => {}
     }
 }
 
@@ -37,18 +37,20 @@ pub(crate) fn fits(table: Table, root: Row, stack: &mut [u32], room: usize) -> b
     requires stack_words { table.used ≤ length stack.old }
     ensures { result ≡ leb (length (plain (term_of table.entry root.0))) room }
 {
-    stack[0] = root.0;
-    let mut depth = 1;
+    let mut rest = Stack {
+        words: stack,
+        depth: 0,
+    };
+    rest.push(root.0);
     let mut left = room;
-    while 0 < depth {
-        let top = depth - 1;
-        let words = table::load_row(table.rows, Row(stack[top]));
+    while let Some(row) = rest.pop() {
+        let words = table::load_row(table.rows, Row(row));
         let n = length::own_length(words) as usize;
         if left < n {
             return false;
         }
-        left = left - n;
-        depth = put_named(stack, top, words);
+        left -= n;
+        push_named(&mut rest, words);
     }
     // `$`
     0 < left

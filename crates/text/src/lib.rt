@@ -15,6 +15,7 @@ use rows::Table;
 mod count;
 mod room;
 mod rows;
+mod stack;
 mod store;
 mod walk;
 
