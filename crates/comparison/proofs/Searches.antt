@@ -8,7 +8,7 @@ use native.Mathlib.Numerals.{add-one}
 use native.Mathlib.Omega.{arith}
 use lib.Dec.{eqb}
 use lib.ListN.{length, get_or, take, set}
-use lib.Seq.{get_or-take, take-suc-set, take_all}
+use lib.Seq.{get_or-take, take-suc-set}
 use borrow.Author.Tests.{lt-ltb, le-ltb}
 use Rattle.format.specs.Term.{Term}
 use Rattle.format.specs.Bound.{message_bound, row_bound}
@@ -96,7 +96,8 @@ module _ (a b : Side) where
         unfolding leads
         test = ap₂ ◌&&◌ (ap (λ (c : ℕ). eqb c (base_x + i)) (known_at (base_x + i) h)) same_test
 
-      found_in : (count : ℕ) → count ≤ x.used → base_x + count ≤ n → first_below (leads classes (rows_in x base_x) (rows_in y base_y j)) count ≡ first_below (λ i. leading (base_x + i)) count
+      found_in : (count : ℕ) → count ≤ x.used → base_x + count ≤ n
+          → first_below (leads classes (rows_in x base_x) (rows_in y base_y j)) count ≡ first_below (λ i. leading (base_x + i)) count
       found_in count l h = same_first _ _ count (λ i g. test i (omega arith) (omega arith))
 
     -- the first side's rows lie from 0 on
@@ -137,10 +138,7 @@ module _ (a b : Side) where
       (same_class_lem (joint_term a b) (0 + i) (a.used + j) ∙ ap₂ same_term (in_first i h) (in_second j))
 
 -- the classes of the first n rows are known, and that of row n is stored
-pub one_more : (term : ℕ → Term) (classes : List ℕ) (n c : ℕ) → n < length classes → take n classes ≡ class_list term n → c ≡ row_class term n → take (n + 1) (set classes n c) ≡ class_list term (n + 1)
+pub one_more : (term : ℕ → Term) (classes : List ℕ) (n c : ℕ) → n < length classes → take n classes ≡ class_list term n → c ≡ row_class term n
+    → take (n + 1) (set classes n c) ≡ class_list term (n + 1)
 unfolding class_list
 one_more term classes n c h known e = rw (add-one n) (take-suc-set classes n c h ∙ ap₂ (λ (l : List ℕ) (m : ℕ). l ++ (m ∷ [])) known e)
-
--- those of all rows are known
-pub all_known : (term : ℕ → Term) (classes : List ℕ) (n end : ℕ) → n ≤ end → end ≤ n → length classes ≡ end → take n classes ≡ class_list term n → classes ≡ class_list term end
-all_known term classes n end h g l known = let e : n ≡ end = omega arith in sym (take_all n classes (omega arith)) ∙ known ∙ ap (class_list term) e

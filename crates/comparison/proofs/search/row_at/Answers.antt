@@ -5,4 +5,6 @@ use Rattle.comparison.proofs.Searches.{read-inside}
 use Rattle.comparison.proofs.search.row_at.Goals as goal
 
 pub invariant_of-result : goal.invariant_of-result
-invariant_of-result c = let s = c.args.s in record { inside = tested.read-inside s.message.now c.args.base c.load_row.ensures (read-inside (side_of s) s.sound c.args.base c.args.j c.requires) }
+invariant_of-result c =
+    let s = c.args.s in
+    record { inside = tested.read-inside s.message.now c.args.base c.load_row.ensures (read-inside (side_of s) s.sound c.args.base c.args.j c.requires) }
