@@ -39,6 +39,7 @@ fn same_roots(a: Side, root_a: Row, b: Side, root_b: Row, joint: &mut [u32]) -> 
 }
 
 // Compares two tables where they are sound. The scratch, which has a word for each row used on both sides, is left as the numbering leaves it.
+// Before they are known to be sound the tables are no `Side`, so the parameters are those of `compare`.
 fn compare_tables(
     message_a: &[u8],
     rows_a: &[u32],

@@ -125,7 +125,7 @@ pub(crate) fn find(name: &[u8]) -> Option<Layout>
     ensures { said result ≡ found (format_in formats name.now) }
 {
     let number = number_by_length(name)?;
-    // by value, so that the compiler knows each entry: `FORMATS.iter().find(..)` writes the table out at every call (a word in 307 instructions for 228)
+    // by value, so that the compiler knows each entry: `FORMATS.iter().find(..)` writes the table out at every call (307 instructions a word for 230)
     for format in FORMATS {
         if format.name == number {
             return Some(format.layout);
