@@ -52,6 +52,8 @@ fn begin(output: &mut [u8], at: usize, words: RowWords) -> Begun
 }
 
 // Stores the first leaf in row `row`, and what stands before it. The rows around the leaf become frames.
+// `stack` and `depth`, `output` and `at` stay parameters, here and below: a `Stack`, as the count has, would put two clauses more on each function, that
+// the same words are lent and as many of them.
 pub(crate) fn put_first(
     table: Table,
     stack: &mut [u32],

@@ -14,9 +14,6 @@ returns-then-not-root_among c =
     let p = c.requires in
     root_fails _ _ _ _ _ _ p.0 p.1 (sym c.count_fits.ensures ∙ c.if-not-count_fits.false) (sym c.root_among.ensures ∙ c.if-not-root_among.true)
 
-pub slice_bounds-write_rows-end-2 : goal.slice_bounds-write_rows-end-2
-slice_bounds-write_rows-end-2 c = sym (length-take-le _ _ c.requires.1)
-
 pub write_rows-requires : goal.write_rows-requires
 write_rows-requires c =
     rw (length-take-le _ _ c.requires.1) (claimed (sym c.count_fits.ensures ∙ c.if-not-count_fits.false) (sym c.root_among.ensures ∙ c.if-not-root_among.false))

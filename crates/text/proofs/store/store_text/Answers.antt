@@ -36,9 +36,6 @@ loop-place-preserved c =
 pub bounds-output-place : goal.bounds-output-place
 bounds-output-place c = last-place c.loop-place.invariant c.in_default.is
 
-pub overflow_add-result : goal.overflow_add-result
-overflow_add-result c = omega (arith, last-place c.loop-place.invariant c.in_default.is)
-
 pub returns : goal.returns
 returns c =
     let all = all_stored c.loop-place.invariant c.in_default.is c.loop-place.auto.output in

@@ -1,9 +1,6 @@
 -- `text::walk::put_rest` meets its contract.
-use Rattle.text.proofs.Passes.{rises, turn-fits, turn-smaller, turn}
+use Rattle.text.proofs.Passes.{turn-fits, turn-smaller, turn}
 use Rattle.text.proofs.walk.put_rest.Goals as goal
-
-pub loop-table-init : goal.loop-table-init
-loop-table-init c = rises c.requires
 
 pub put_frame-place-requires : goal.put_frame-place-requires
 put_frame-place-requires c = turn-fits c.loop-table.invariant c.loop-table-test.ensures c.if-place-gt0.true
