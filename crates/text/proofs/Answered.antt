@@ -20,9 +20,6 @@ use Rattle.format.specs.declared.refusal.Refusal.TheVariants.{OverBound, ShortTa
 use Rattle.text.specs.Answers.{written_as, write_rows}
 
 -- the claims of a table: its count and its root
-pub claimed : {a b : Bool} → a ≡ true → b ≡ true → T (a && b)
-claimed p q = rw (p, q) tt
-
 module _ (words : List ℕ) (used root : ℕ) (claims : T (count_fits words used && root_among used root)) where
   pub count_room : used ≤ row_room words
   unfolding count_fits
