@@ -3,7 +3,7 @@ ghost use Rattle.std.specs.Prelude.{◌≤◌, T};
 ghost use Rattle.format.specs.Rows.{rows_of, row_room};
 ghost use Rattle.format.specs.Sound.{sound_rows};
 
-// The first rows of a table and the message that they are sound against.
+// A table whose first `used` rows are sound, and the message that they are sound against.
 #[derive(Clone, Copy)]
 pub(crate) struct Table<'a> {
     pub message: &'a [u8],

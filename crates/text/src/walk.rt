@@ -76,13 +76,12 @@ pub(crate) fn put_first(
     let mut frames = depth;
     let mut end = at;
     while !leaf::is_leaf(words.kind) {
-        let above = frames + 1;
         stack[frames] = n.0;
+        frames += 1;
         let begun = begin(output, end, words);
         n = begun.row;
         end = begun.at;
         words = table::read_row(table.rows, n);
-        frames = above;
     }
     Place {
         next: None,

@@ -13,14 +13,14 @@ read_row-words-requires c = above-room _ _ (last_first c.args.stack.now c.args.d
 pub loop-n-init : goal.loop-n-init
 loop-n-init c = starts _ _ _ _ _ _ c.requires.stack_words c.requires.above c.requires.room c.read_row-words.ensures
 
-pub overflow_add-above : goal.overflow_add-above
-overflow_add-above c = omega (arith, frame-fits c.loop-n.invariant)
-
 pub offset_bounds-stack-frames : goal.offset_bounds-stack-frames
 offset_bounds-stack-frames c = omega (arith, frame-fits c.loop-n.invariant)
 
 pub bounds-stack-frames : goal.bounds-stack-frames
 bounds-stack-frames c = frame-fits c.loop-n.invariant
+
+pub overflow_add-frames : goal.overflow_add-frames
+overflow_add-frames c = omega (arith, frame-fits c.loop-n.invariant)
 
 pub begin-begun-requires : goal.begin-begun-requires
 begin-begun-requires c = begin_fits c.loop-n.invariant (sym c.is_leaf.ensures ∙ c.loop-n-test.true)
