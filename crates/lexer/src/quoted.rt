@@ -36,10 +36,8 @@ pub fn read_quoted(
     while i < message.len() {
         if open {
             let b = message[i];
-            if b != byte::BACKSLASH {
-                if b != quote {
-                    return Err(Unclosed::Stray(Offset(i)));
-                }
+            if b != byte::BACKSLASH && b != quote {
+                return Err(Unclosed::Stray(Offset(i)));
             }
             open = false;
             i += 1;
@@ -80,11 +78,9 @@ pub fn read_name(message: &[u8], from: Offset, quote: u8) -> Result<Quoted, Uncl
     if start < message.len() {
         let end = near(start, message.len());
         let p = scan::plain_end_by_blocks(message, start, end, quote);
-        if p < end {
-            if message[p] == quote {
-                let (count, end) = (p - start, Offset(p + 1));
-                return Ok(Quoted { count, end });
-            }
+        if p < end && message[p] == quote {
+            let (count, end) = (p - start, Offset(p + 1));
+            return Ok(Quoted { count, end });
         }
     }
     read_quoted(message, from, quote, false)

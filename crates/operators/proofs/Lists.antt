@@ -6,7 +6,7 @@ use mathlib.Core.List.{List}
 use native.Mathlib.Omega.{arith}
 use lib.ListN.{get_or}
 use lib.Dec.{leb, eqb}
-use borrow.Author.Tests.{leb-true, leb-false, eq-eqb, ne_eqb}
+use borrow.Author.Tests.{leb-true, leb-false, ne_eqb}
 use Rattle.format.specs.Lex.{hash_item, ampersand_item}
 use Rattle.format.specs.Machine as M
 use Rattle.format.specs.Machine.{base, step}
@@ -18,11 +18,7 @@ use Rattle.machine.specs.Held.{Ready, stops, machine_of, limited, taken, with_ro
 use Rattle.machine.proofs.Limits.{refused-step}
 use Rattle.machine.proofs.Pops.{pop-few, pop-top, held-row}
 
--- whether a row is a list
-pub is-nil : (k : ℕ) → k ≡ nil_kind → true ≡ is_list_kind k
-unfolding is_list_kind
-is-nil k e = rw (eq-eqb k nil_kind e) refl
-
+-- a row that is not the empty list is a list if it is a cell
 pub is-cons : (k : ℕ) → ¬ (k ≡ nil_kind) → eqb k cons_kind ≡ is_list_kind k
 unfolding is_list_kind
 is-cons k h = rw (ne_eqb k nil_kind h) refl

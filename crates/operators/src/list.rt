@@ -40,10 +40,7 @@ fn is_list(rows: &[u32], v: Row) -> bool
     ensures { result ≡ is_list_kind (row_in rows.now v.0).kind }
 {
     let w = table::load_row(rows, v);
-    if w.kind == kind::NIL {
-        return true;
-    }
-    w.kind == kind::CONS
+    w.kind == kind::NIL || w.kind == kind::CONS
 }
 
 // `&`: the item on top goes before the list under it.

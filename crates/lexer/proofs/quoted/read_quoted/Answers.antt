@@ -3,7 +3,7 @@ use native.Mathlib.Omega.{arith}
 use Rattle.scan.proofs.Runs.{not-before}
 use Rattle.lexer.proofs.Scans as laws
 use Rattle.lexer.proofs.quoted.read_quoted.Goals as goal
-use Rattle.lexer.proofs.quoted.read_quoted.Goals.{then-b-ne-BACKSLASH+else-b-quote, else-b-ne-BACKSLASH}
+use Rattle.lexer.proofs.quoted.read_quoted.Goals.{else-b-ne-BACKSLASH-via-then-b-ne-BACKSLASH+else-b-quote, else-b-ne-BACKSLASH-via-else-b-ne-BACKSLASH}
 
 pub loop-i-init : goal.loop-i-init
 loop-i-init c = laws.begins _ _ _ _
@@ -13,9 +13,9 @@ returns-then-b-quote c = laws.strays _ _ _ c.loop-i.invariant c.loop-i-test.true
 
 pub loop-i-preserved-then-open : goal.loop-i-preserved-then-open
 loop-i-preserved-then-open c =
-    elim c.if-b-ne-BACKSLASH.branch [
-      | then-b-ne-BACKSLASH+else-b-quote w ↦ laws.escaped_quote _ _ _ c.loop-i.invariant c.loop-i-test.true c.if-open.true w.if-b-quote.false
-      | else-b-ne-BACKSLASH w ↦ laws.backslash _ _ _ c.loop-i.invariant c.loop-i-test.true c.if-open.true w.if-b-ne-BACKSLASH.false
+    elim c.else-b-ne-BACKSLASH.branch [
+      | else-b-ne-BACKSLASH-via-then-b-ne-BACKSLASH+else-b-quote w ↦ laws.escaped_quote _ _ _ c.loop-i.invariant c.loop-i-test.true c.if-open.true w.if-b-quote.false
+      | else-b-ne-BACKSLASH-via-else-b-ne-BACKSLASH w ↦ laws.backslash _ _ _ c.loop-i.invariant c.loop-i-test.true c.if-open.true w.if-b-ne-BACKSLASH.false
     ]
 
 pub returns-then-message-p : goal.returns-then-message-p
