@@ -188,6 +188,7 @@ fn sound_rows(message: &[u8], rows: &[u32], used: u32) -> bool
 {
     for i in 0..used {
         let words = read_row(rows, Row(i));
+        // three tests: joined by `||` they cost an instruction a row
         if !sound_words(message, Row(i), words) {
             return false;
         }

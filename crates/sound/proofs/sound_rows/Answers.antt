@@ -23,10 +23,9 @@ pub rest_fits-requires : goal.rest_fits-requires
 rest_fits-requires c =
     let words = sym c.sound_words.ensures ∙ c.if-not-sound_words.false in
     let sound = both-pass _ _ _ words (sym c.sound_text.ensures ∙ c.if-not-sound_text.false) in
-    let row = c.read_row-words.ensures in
-    (
+    let row = c.read_row-words.ensures in (
       laws.cons-room _ _ _ (omega arith) _ c.loop-i-test.true _ row sound,
-      laws.field_room _ _ _ (omega arith) _ c.loop-i-test.true _ row sound
+      laws.field_room _ _ _ (omega arith) _ c.loop-i-test.true _ row sound,
     )
 
 pub returns-then-not-rest_fits : goal.returns-then-not-rest_fits
