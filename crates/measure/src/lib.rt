@@ -20,6 +20,7 @@ pub fn judge(message: &[u8], rows: &[u32], lengths: &mut [u32]) -> bool
     for i in 0..lengths.len() {
         let n = Row(i as u32);
         let words = table::read_row(rows, n);
+        // three tests: joined by `||` they cost an instruction a row
         if !sound::sound_words(message, n, words) {
             return false;
         }
