@@ -16,8 +16,8 @@ ghost use Rattle.demands.specs.Demand3.{comparison_as, comparison_says, comparis
 
 use decoder::Accepted;
 use demands::{NotCompared, TripRefused, WordRefused};
-use format::Row;
 use format::refusal::{Refusal, Refused};
+use table::Table;
 
 // Decodes a message: what it leaves behind (demand 1), and the term that it means (demand 2).
 pub fn decode(
@@ -34,28 +34,18 @@ pub fn decode(
     decoder::decode(message, rows, stack, marks, registers)
 }
 
-// Writes the plain text of row `root`: what it leaves behind (demand 1).
-pub fn write(
-    message: &[u8],
-    rows: &[u32],
-    used: u32,
-    root: Row,
-    scratch: &mut [u32],
-    output: &mut [u8],
-) -> Result<usize, Refusal>
-    ensures answer { written_as result scratch.new output.new ≡ write_answer message.now rows.now used root.0 scratch.old output.old }
+// Writes the plain text of a table's root: what it leaves behind (demand 1).
+pub fn write(table: Table, scratch: &mut [u32], output: &mut [u8]) -> Result<usize, Refusal>
+    ensures answer { written_as result scratch.new output.new ≡ write_answer table.entry.message.now table.entry.rows.now table.entry.used table.entry.root.0 scratch.old output.old }
     ensures write_touches { WriteTouches scratch.old output.old result scratch.new output.new }
 {
-    text::write(message, rows, used, root, scratch, output)
+    text::write(table, scratch, output)
 }
 
-// Writes the plain text of row `root` into the output, and decodes what was written into other tables: the same term comes back, from exactly
+// Writes the plain text of a table's root into the output, and decodes what was written into other tables: the same term comes back, from exactly
 // the bytes written, or a limit is refused (demand 2).
 pub fn round_trip(
-    message: &[u8],
-    rows: &[u32],
-    used: u32,
-    root: Row,
+    table: Table,
     scratch: &mut [u32],
     output: &mut [u8],
     back: &mut [u32],
@@ -63,12 +53,24 @@ pub fn round_trip(
     marks: &mut [u32],
     registers: &mut [u32],
 ) -> Result<Accepted, TripRefused>
-    ensures answer { trip_as output.new result (tables back.new stack.new marks.new registers.new) ≡ trip_says message.now rows.now used root.0 scratch.old output.old (tables back.old stack.old marks.old registers.old) }
-    ensures buffers_after { buffers scratch.new output.new (tables back.new stack.new marks.new registers.new) ≡ trip_leaves message.now rows.now used root.0 scratch.old output.old (tables back.old stack.old marks.old registers.old) }
+    ensures answer { trip_as output.new result (tables back.new stack.new marks.new registers.new) ≡ trip_says table.entry.message.now table.entry.rows.now table.entry.used table.entry.root.0 scratch.old output.old (tables back.old stack.old marks.old registers.old) }
+    ensures buffers_after { buffers scratch.new output.new (tables back.new stack.new marks.new registers.new) ≡ trip_leaves table.entry.message.now table.entry.rows.now table.entry.used table.entry.root.0 scratch.old output.old (tables back.old stack.old marks.old registers.old) }
     ensures limits_only { (e : Refused) → result ≡ Err (NotRead e) → T (is_limit (number_of e.refusal)) }
 {
-    let n = text::write(message, rows, used, root, scratch, output)?;
+    let n = text::write(table, scratch, output)?;
     Ok(decoder::decode(&output[..n], back, stack, marks, registers)?)
+}
+
+// The table of an accepted message.
+fn decoded<'a>(message: &'a [u8], rows: &'a [u32], read: Accepted) -> Table<'a>
+    ensures { (result.message.now ≡ message.now) × (result.rows.now ≡ rows.now) × (result.used ≡ read.used) × (result.root ≡ read.root) }
+{
+    Table {
+        message,
+        rows,
+        used: read.used,
+        root: read.root,
+    }
 }
 
 // Decodes a message whose term is a sensor block, and reads word k of it in the order that its tag names (demand 2).
@@ -84,27 +86,15 @@ pub fn message_word(
     ensures tables_after { tables rows.new stack.new marks.new registers.new ≡ (decode_answer message.now (tables rows.old stack.old marks.old registers.old)).tables }
 {
     let read = decoder::decode(message, rows, stack, marks, registers)?;
-    words::read_word(message, rows, read.used, read.root, k).map_err(WordRefused::NoWord)
+    words::read_word(decoded(message, rows, read), k).map_err(WordRefused::NoWord)
 }
 
 // Compares the plain texts of two tables' roots: what it leaves behind (demand 1).
-pub fn compare(
-    message_a: &[u8],
-    rows_a: &[u32],
-    used_a: u32,
-    root_a: Row,
-    message_b: &[u8],
-    rows_b: &[u32],
-    used_b: u32,
-    root_b: Row,
-    scratch: &mut [u32],
-) -> Result<bool, Refusal>
-    ensures answer { compared_as result scratch.new ≡ compare_answer message_a.now rows_a.now used_a root_a.0 message_b.now rows_b.now used_b root_b.0 scratch.old }
+pub fn compare(a: Table, b: Table, scratch: &mut [u32]) -> Result<bool, Refusal>
+    ensures answer { compared_as result scratch.new ≡ compare_answer a.entry.message.now a.entry.rows.now a.entry.used a.entry.root.0 b.entry.message.now b.entry.rows.now b.entry.used b.entry.root.0 scratch.old }
     ensures compare_touches { CompareTouches scratch.old result scratch.new }
 {
-    comparison::compare(
-        message_a, rows_a, used_a, root_a, message_b, rows_b, used_b, root_b, scratch,
-    )
+    comparison::compare(a, b, scratch)
 }
 
 // Decodes two messages, each into rows of its own, with the same working memory, and compares their full plain texts on the rows (demand 3).
@@ -128,7 +118,9 @@ pub fn compare_messages(
         NotCompared::Second,
     )?;
     comparison::compare(
-        message_a, rows_a, a.used, a.root, message_b, rows_b, b.used, b.root, scratch,
+        decoded(message_a, rows_a, a),
+        decoded(message_b, rows_b, b),
+        scratch,
     )
     .or(Err(NotCompared::ShortScratch))
 }

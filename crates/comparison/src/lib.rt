@@ -11,6 +11,7 @@ ghost use Rattle.comparison.specs.Sides.{side_of};
 use crate::side::Side;
 use format::refusal::Refusal;
 use format::{Row, bound};
+use table::Table;
 
 mod classes;
 mod same;
@@ -39,69 +40,46 @@ fn same_roots(a: Side, root_a: Row, b: Side, root_b: Row, joint: &mut [u32]) -> 
 }
 
 // Compares two tables where they are sound. The scratch, which has a word for each row used on both sides, is left as the numbering leaves it.
-// Before they are known to be sound the tables are no `Side`, so the parameters are those of `compare`.
-fn compare_tables(
-    message_a: &[u8],
-    rows_a: &[u32],
-    used_a: u32,
-    root_a: Row,
-    message_b: &[u8],
-    rows_b: &[u32],
-    used_b: u32,
-    root_b: Row,
-    scratch: &mut [u32],
-) -> Result<bool, Refusal>
-    requires { (length message_a.now ≤ message_bound) × (length message_b.now ≤ message_bound) × (used_a + used_b ≤ length scratch.old) }
-    ensures { compared_as result (zeroed scratch.old) ≡ compare_answer message_a.now rows_a.now used_a root_a.0 message_b.now rows_b.now used_b root_b.0 scratch.old }
+fn compare_tables(a: Table, b: Table, scratch: &mut [u32]) -> Result<bool, Refusal>
+    requires { (length a.message.now ≤ message_bound) × (length b.message.now ≤ message_bound) × (a.used + b.used ≤ length scratch.old) }
+    ensures { compared_as result (zeroed scratch.old) ≡ compare_answer a.entry.message.now a.entry.rows.now a.entry.used a.entry.root.0 b.entry.message.now b.entry.rows.now b.entry.used b.entry.root.0 scratch.old }
 {
-    if !sound::sound_table(message_a, rows_a, used_a, root_a) {
+    if !sound::sound_table(a) {
         return Err(Refusal::Unsound);
     }
-    if !sound::sound_table(message_b, rows_b, used_b, root_b) {
+    if !sound::sound_table(b) {
         return Err(Refusal::Unsound);
     }
-    let a = Side {
-        message: message_a,
-        rows: rows_a,
-        used: used_a,
+    let n = rows_of_both(a.used, b.used);
+    let first = Side {
+        message: a.message,
+        rows: a.rows,
+        used: a.used,
     };
-    let b = Side {
-        message: message_b,
-        rows: rows_b,
-        used: used_b,
+    let second = Side {
+        message: b.message,
+        rows: b.rows,
+        used: b.used,
     };
-    let n = rows_of_both(used_a, used_b);
-    let same = same_roots(a, root_a, b, root_b, &mut scratch[..n]);
+    let same = same_roots(first, a.root, second, b.root, &mut scratch[..n]);
     Ok(same)
 }
 
-// Compares the plain texts of row `root_a` of one table and row `root_b` of another, which may be the same table. The scratch is working memory, a word
-// for each row used on both sides; after all but 1 and 2 it is zero.
-pub fn compare(
-    message_a: &[u8],
-    rows_a: &[u32],
-    used_a: u32,
-    root_a: Row,
-    message_b: &[u8],
-    rows_b: &[u32],
-    used_b: u32,
-    root_b: Row,
-    scratch: &mut [u32],
-) -> Result<bool, Refusal>
-    ensures { compared_as result scratch.new ≡ compare_answer message_a.now rows_a.now used_a root_a.0 message_b.now rows_b.now used_b root_b.0 scratch.old }
+// Compares the plain texts of the roots of two tables, which may be the same. The scratch is working memory, a word for each row used on both sides; after all but
+// 1 and 2 it is zero.
+pub fn compare(a: Table, b: Table, scratch: &mut [u32]) -> Result<bool, Refusal>
+    ensures { compared_as result scratch.new ≡ compare_answer a.entry.message.now a.entry.rows.now a.entry.used a.entry.root.0 b.entry.message.now b.entry.rows.now b.entry.used b.entry.root.0 scratch.old }
 {
-    if bound::MESSAGE_BYTES < message_a.len() {
+    if bound::MESSAGE_BYTES < a.message.len() {
         return Err(Refusal::OverBound);
     }
-    if bound::MESSAGE_BYTES < message_b.len() {
+    if bound::MESSAGE_BYTES < b.message.len() {
         return Err(Refusal::OverBound);
     }
-    if scratch.len() < rows_of_both(used_a, used_b) {
+    if scratch.len() < rows_of_both(a.used, b.used) {
         return Err(Refusal::ShortTable);
     }
-    let answer = compare_tables(
-        message_a, rows_a, used_a, root_a, message_b, rows_b, used_b, root_b, scratch,
-    );
+    let answer = compare_tables(a, b, scratch);
     table::clear(scratch);
     answer
 }

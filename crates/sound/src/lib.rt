@@ -8,7 +8,7 @@ ghost use Rattle.sound.specs.Parts.{sound_words, quote_of, sound_text};
 ghost use Rattle.table.specs.Words.{row_of, row_in};
 
 use format::{Row, byte, kind};
-use table::{RowWords, read_row, row_room};
+use table::{RowWords, Table, read_row, row_room};
 
 // Whether a span lies inside the slice. Its end is counted in 64 bits, where no sum of two words wraps.
 #[tactic(auto, unfolding(format::specs::Sound::in_slice))]
@@ -204,11 +204,11 @@ fn sound_rows(message: &[u8], rows: &[u32], used: u32) -> bool
 
 // Whether a table is sound; refusal 16 is given exactly where it is not.
 #[tactic(auto, unfolding(format::specs::Sound::sound_table, format::specs::Sound::count_fits))]
-pub fn sound_table(message: &[u8], rows: &[u32], used: u32, root: Row) -> bool
-    ensures { result ≡ sound_table message.now rows.now used root.0 }
+pub fn sound_table(table: Table) -> bool
+    ensures { result ≡ sound_table table.entry.message.now table.entry.rows.now table.entry.used table.entry.root.0 }
 {
     // each slice is lent anew, so that the compiler can pass it in registers
-    count_fits(&rows[..], used)
-        && root_among(used, root)
-        && sound_rows(&message[..], &rows[..], used)
+    count_fits(&table.rows[..], table.used)
+        && root_among(table.used, table.root)
+        && sound_rows(&table.message[..], &table.rows[..], table.used)
 }

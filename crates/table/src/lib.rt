@@ -18,6 +18,15 @@ pub struct RowWords {
     pub third: u32,
 }
 
+// A row table lent for reading: the message that its spans lie in, its words, how many rows are used, and the root. Nothing is known of it.
+#[derive(Clone, Copy)]
+pub struct Table<'a> {
+    pub message: &'a [u8],
+    pub rows: &'a [u32],
+    pub used: u32,
+    pub root: Row,
+}
+
 // How many values a word has.
 pub const WORD_VALUES: u64 = 4294967296;
 

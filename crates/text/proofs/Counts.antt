@@ -14,7 +14,7 @@ use Rattle.format.specs.Rows.{Row, cons_kind, field_kind}
 use Rattle.format.specs.Text.{plain}
 use Rattle.format.proofs.TableRows.{length-rows, judged}
 use Rattle.table.specs.Words.{row_in}
-use Rattle.text.specs.declared.rows.Table.{Table}
+use Rattle.text.specs.declared.rows.SoundRows.{SoundRows}
 use Rattle.text.specs.declared.stack.Stack.{Stack}
 use Rattle.text.specs.Stack.{on_stack, room_on}
 use Rattle.text.specs.Rows.{rows_used, row_used, term_of}
@@ -54,19 +54,19 @@ same_test k n left h = by (leb (n + k) left) refl
     by false e = lt-leb k (left - n) (omega (arith, leb-false (n + k) left e))
 
 -- the bytes still to be counted, with `$`, where these rows are
-abbrev text_of : Table → ℕ → ℕ
+abbrev text_of : SoundRows → ℕ → ℕ
 text_of t i = text_length (term_of t i)
 
-abbrev pub to_count : Table → List ℕ → ℕ
+abbrev pub to_count : SoundRows → List ℕ → ℕ
 to_count t rest = total (text_of t) rest + 1
 
 -- what is still to be counted has the room that is left exactly where all had the room at first
-pub record Counting (t : Table) (all room : ℕ) (rest : Stack) (left : ℕ) : Type 0 where
+pub record Counting (t : SoundRows) (all room : ℕ) (rest : Stack) (left : ℕ) : Type 0 where
   pub stack_words : t.used ≤ room_on rest
   pub low : Low t.used (on_stack rest)
   pub count : leb (to_count t (on_stack rest)) left ≡ leb all room
 
-module _ {t : Table} {all room : ℕ} {rest : Stack} {left : ℕ} (m : Counting t all room rest left) where
+module _ {t : SoundRows} {all room : ℕ} {rest : Stack} {left : ℕ} (m : Counting t all room rest left) where
   abbrev rows : List Row
   rows = rows_used t
 
@@ -133,10 +133,10 @@ module _ {t : Table} {all room : ℕ} {rest : Stack} {left : ℕ} (m : Counting 
               (λ a b l g. omega (arith, lower_weight a top l, lower_weight b top g)))
 
 -- all is counted from the root on
-pub begins : {t : Table} {rest : Stack} {root room : ℕ} → root < t.used → t.used ≤ room_on rest → on_stack rest ≡ root ∷ []
+pub begins : {t : SoundRows} {rest : Stack} {root room : ℕ} → root < t.used → t.used ≤ room_on rest → on_stack rest ≡ root ∷ []
     → Counting t (to_count t (on_stack rest)) room rest room
 begins h k e = record { stack_words = k; low = rw e (omega arith, tt); count = refl }
 
-pub whole : (t : Table) {rest : List ℕ} {root : ℕ} → rest ≡ root ∷ [] → to_count t rest ≡ length (plain (term_of t root))
+pub whole : (t : SoundRows) {rest : List ℕ} {root : ℕ} → rest ≡ root ∷ [] → to_count t rest ≡ length (plain (term_of t root))
 unfolding total plain
 whole t {root = root} e = rw e (omega (arith, text-after (term_of t root) (code "$" ∷ [])))

@@ -13,7 +13,7 @@ use Rattle.format.specs.Rows.{Row, row_room, cons_kind, field_kind}
 use Rattle.table.specs.Words.{last_first, row_in}
 use Rattle.table.proofs.Rows.{pushed, length-last_first}
 use Rattle.leaves.specs.Leaves.{is_leaf_kind, leaf_bytes, Inside}
-use Rattle.text.specs.declared.rows.Table.{Table}
+use Rattle.text.specs.declared.rows.SoundRows.{SoundRows}
 use Rattle.text.specs.Rows.{row_used}
 use Rattle.text.specs.Walk.{open_bytes, first_named, pending, coming, Above, Falling, Partly}
 use Rattle.text.proofs.Partly.{part_none, part_then, part_room, put_fits, part_put}
@@ -44,7 +44,7 @@ module _ (output : List ℕ) (at : ℕ) (r : Row) where
       (rw no_field, (rw no_field (omega arith), rw (no_field, ne_eqb r.kind cons_kind m)))
 
 -- the stack, the output, the row and where the text goes on, at first
-module _ (t : Table) (stack₀ output₀ : List ℕ) (n₀ frames₀ end₀ : ℕ) where
+module _ (t : SoundRows) (stack₀ output₀ : List ℕ) (n₀ frames₀ end₀ : ℕ) where
   abbrev text₀ : List ℕ
   text₀ = coming t n₀ (last_first stack₀ frames₀)
 
@@ -66,7 +66,7 @@ module _ (t : Table) (stack₀ output₀ : List ℕ) (n₀ frames₀ end₀ : �
     part = part_none output₀ end₀ text₀;
   }
 
-module _ {t : Table} {stack₀ output₀ : List ℕ} {n₀ frames₀ end₀ : ℕ} {stack output : List ℕ} {n : ℕ} {r : Row} {frames end : ℕ}
+module _ {t : SoundRows} {stack₀ output₀ : List ℕ} {n₀ frames₀ end₀ : ℕ} {stack output : List ℕ} {n : ℕ} {r : Row} {frames end : ℕ}
     (w : Entering t stack₀ output₀ n₀ frames₀ end₀ stack output n r frames end) where
   abbrev below : List ℕ
   below = last_first stack frames

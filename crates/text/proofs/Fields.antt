@@ -13,7 +13,7 @@ use Rattle.format.specs.Text.{text_on}
 use Rattle.format.specs.Rows.{Row, row_room, is_tuple_kind, field_kind}
 use Rattle.table.specs.Words.{last_first, row_in}
 use Rattle.leaves.specs.Leaves.{is_leaf_kind, leaf_bytes, Inside}
-use Rattle.text.specs.declared.rows.Table.{Table}
+use Rattle.text.specs.declared.rows.SoundRows.{SoundRows}
 use Rattle.text.specs.Rows.{row_used, term_of}
 use Rattle.text.specs.Walk.{frame_row, frame_on, pending, coming, coming_fields, of_field, Above, Partly}
 use Rattle.text.proofs.Partly.{part_none, part_then, part_room, put_fits, part_put}
@@ -22,7 +22,7 @@ use Rattle.text.proofs.Frames.{field_names, field_rest, more_fields, no_fields, 
 use Rattle.text.proofs.Turned.{Turned, turned-done, turned-above}
 
 -- the stack, the output, the first field's row and where the text goes on, at first
-module _ (t : Table) (stack₀ output₀ : List ℕ) (top n₀ end₀ : ℕ) where
+module _ (t : SoundRows) (stack₀ output₀ : List ℕ) (top n₀ end₀ : ℕ) where
   -- the fields from row n on, which has the words r, are still to come
   pub record Fielding (stack output : List ℕ) (n : ℕ) (r : Row) (end : ℕ) : Type 0 where
     pub same : stack ≡ stack₀
@@ -46,7 +46,7 @@ module _ (t : Table) (stack₀ output₀ : List ℕ) (top n₀ end₀ : ℕ) whe
         part = part_none output₀ end₀ _;
       }
 
-module _ {t : Table} {stack₀ output₀ : List ℕ} {top n₀ end₀ : ℕ} {stack output : List ℕ} {n : ℕ} {r : Row} {end : ℕ}
+module _ {t : SoundRows} {stack₀ output₀ : List ℕ} {top n₀ end₀ : ℕ} {stack output : List ℕ} {n : ℕ} {r : Row} {end : ℕ}
     (w : Fielding t stack₀ output₀ top n₀ end₀ stack output n r end) where
   abbrev below : List ℕ
   below = last_first stack₀ top

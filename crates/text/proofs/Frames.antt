@@ -25,7 +25,7 @@ use Rattle.table.proofs.Rows.{row_of}
 use Rattle.leaves.proofs.Leaves.{length-after}
 use Rattle.measure.proofs.Lengths.{list-again}
 use Rattle.leaves.specs.Leaves.{is_leaf_kind, is_span_kind, quote_of, count_bytes, span_bytes, leaf_bytes, Inside}
-use Rattle.text.specs.declared.rows.Table.{Table}
+use Rattle.text.specs.declared.rows.SoundRows.{SoundRows}
 use Rattle.text.specs.Rows.{rows_used, term_of}
 use Rattle.text.specs.Walk.{open_bytes, first_named, frame_row, frame_on, Frame, of_cell, of_field, of_tag, Above, Falling}
 
@@ -48,7 +48,7 @@ module _ (i : ℕ) (h : i < row_bound) where
   unfolding frame_row
   begun-frame = omega arith
 
-module _ (t : Table) where
+module _ (t : SoundRows) where
   -- a row and the frames below it are fewer than the rows used
   pub above-inside : (i : ℕ) (frames : List ℕ) → Above t i frames → i + length frames < t.used
   above-inside i [] h = omega arith

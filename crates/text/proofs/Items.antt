@@ -13,7 +13,7 @@ use Rattle.format.specs.Text.{text_on}
 use Rattle.format.specs.Rows.{Row, row_room, cons_kind}
 use Rattle.table.specs.Words.{last_first, row_in}
 use Rattle.leaves.specs.Leaves.{is_leaf_kind, leaf_bytes, Inside}
-use Rattle.text.specs.declared.rows.Table.{Table}
+use Rattle.text.specs.declared.rows.SoundRows.{SoundRows}
 use Rattle.text.specs.Rows.{row_used, term_of}
 use Rattle.text.specs.Walk.{frame_row, frame_on, pending, coming, of_cell, Falling, Partly}
 use Rattle.text.proofs.Partly.{part_none, part_then, part_room, put_fits, part_put}
@@ -22,14 +22,14 @@ use Rattle.text.proofs.Frames.{cell-names, item-frame, begun-item_frame}
 use Rattle.text.proofs.Turned.{Turned, turned-done, turned-above}
 
 -- the frame at `top` of the stack is that of a list cell with this item
-pub record Cell (t : Table) (stack output : List ℕ) (top at item : ℕ) : Type 0 where
+pub record Cell (t : SoundRows) (stack output : List ℕ) (top at item : ℕ) : Type 0 where
   pub top_in_bounds : top < length stack
   pub falling : Falling t (get_or stack top 0 ∷ last_first stack top)
   pub room : at + length (pending t (get_or stack top 0 ∷ last_first stack top)) ≤ length output
   pub cell : ((row_in t.rows.now (frame_row (get_or stack top 0))).kind ≡ cons_kind) × ((row_in t.rows.now (frame_row (get_or stack top 0))).first ≡ item)
 
 -- as it is required
-pub cell_of : {t : Table} {stack output : List ℕ} {top at item : ℕ} → record {
+pub cell_of : {t : SoundRows} {stack output : List ℕ} {top at item : ℕ} → record {
   top_in_bounds : top < length stack;
   falling : Falling t (get_or stack top 0 ∷ last_first stack top);
   room : at + length (pending t (get_or stack top 0 ∷ last_first stack top)) ≤ length output;
@@ -37,7 +37,7 @@ pub cell_of : {t : Table} {stack output : List ℕ} {top at item : ℕ} → reco
 } → Cell t stack output top at item
 cell_of r = record { top_in_bounds = r.top_in_bounds; falling = r.falling; room = r.room; cell = r.cell }
 
-module _ {t : Table} {stack output : List ℕ} {top at item : ℕ} (w : Cell t stack output top at item) where
+module _ {t : SoundRows} {stack output : List ℕ} {top at item : ℕ} (w : Cell t stack output top at item) where
   abbrev e : ℕ
   e = get_or stack top 0
 

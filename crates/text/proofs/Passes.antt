@@ -9,7 +9,7 @@ use Rattle.std.specs.Prelude.{Option, Some, None, MatchOption, is_some}
 use Rattle.format.specs.declared.Row.{Row}
 use Rattle.table.specs.Words.{last_first}
 use Rattle.table.proofs.Rows.{length-last_first}
-use Rattle.text.specs.declared.rows.Table.{Table}
+use Rattle.text.specs.declared.rows.SoundRows.{SoundRows}
 use Rattle.text.specs.declared.walk.Place.{Place}
 use Rattle.text.specs.Walk.{frame_row, pending, Falling, coming_next, ReadyNext, Partly}
 use Rattle.text.proofs.Partly.{part_none, part_then, part_room}
@@ -41,24 +41,24 @@ turn-less None depth depth' h e = omega arith
 turn-less (Some row) depth depth' h e = omega arith
 
 -- what is still to come from a place on
-abbrev pub text_from : Table → Place → List ℕ → List ℕ
+abbrev pub text_from : SoundRows → Place → List ℕ → List ℕ
 text_from t p stack = coming_next t p.next (last_first stack p.depth)
 
 -- the stack, the output and the place at first, and after some turns
-pub record Rising (t : Table) (stack₀ output₀ : List ℕ) (p₀ : Place) (stack output : List ℕ) (p : Place) : Type 0 where
+pub record Rising (t : SoundRows) (stack₀ output₀ : List ℕ) (p₀ : Place) (stack output : List ℕ) (p : Place) : Type 0 where
   pub stack_words : t.used ≤ length stack
   pub ready : ReadyNext t p.next (last_first stack p.depth)
   pub room : p.at + length (text_from t p stack) ≤ length output
   pub part : Partly output₀ p₀.at (text_from t p₀ stack₀) output p.at (text_from t p stack)
 
-pub rises : {t : Table} {stack₀ output₀ : List ℕ} {p₀ : Place} → record {
+pub rises : {t : SoundRows} {stack₀ output₀ : List ℕ} {p₀ : Place} → record {
   stack_words : t.used ≤ length stack₀;
   ready_next : ReadyNext t p₀.next (last_first stack₀ p₀.depth);
   room : p₀.at + length (text_from t p₀ stack₀) ≤ length output₀;
 } → Rising t stack₀ output₀ p₀ stack₀ output₀ p₀
 rises r = record { stack_words = r.stack_words; ready = r.ready_next; room = r.room; part = part_none _ _ _ }
 
-module _ {t : Table} {stack₀ output₀ : List ℕ} {p₀ : Place} {stack output : List ℕ} {p : Place} (w : Rising t stack₀ output₀ p₀ stack output p)
+module _ {t : SoundRows} {stack₀ output₀ : List ℕ} {p₀ : Place} {stack output : List ℕ} {p : Place} (w : Rising t stack₀ output₀ p₀ stack output p)
     (none : is_some p.next ≡ false) (h : 0 < p.depth) where
   abbrev top : ℕ
   top = p.depth - 1

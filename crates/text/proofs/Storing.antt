@@ -11,7 +11,7 @@ use Rattle.std.specs.Prelude.{Some, None}
 use Rattle.format.specs.Text.{plain}
 use Rattle.format.specs.declared.Row as D
 use Rattle.table.specs.Words.{last_first}
-use Rattle.text.specs.declared.rows.Table.{Table}
+use Rattle.text.specs.declared.rows.SoundRows.{SoundRows}
 use Rattle.text.specs.declared.walk.Place.{Place}
 use Rattle.text.specs.Rows.{term_of}
 use Rattle.text.specs.Walk.{pending, coming, Above, coming_next, ReadyNext, Partly}
@@ -19,14 +19,14 @@ use Rattle.text.proofs.Partly.{part_none, part_then, part_room}
 use Rattle.text.proofs.Passes.{text_from}
 
 -- the output at first, the root, and the place after some passes
-pub record Storing (t : Table) (output₀ : List ℕ) (root : ℕ) (stack output : List ℕ) (p : Place) : Type 0 where
+pub record Storing (t : SoundRows) (output₀ : List ℕ) (root : ℕ) (stack output : List ℕ) (p : Place) : Type 0 where
   pub stack_words : t.used ≤ length stack
   pub whole : p.next ≡ None → p.depth ≡ 0
   pub ready : ReadyNext t p.next (last_first stack p.depth)
   pub room : p.at + length (text_from t p stack) ≤ length output
   pub part : Partly output₀ 0 (plain (term_of t root)) output p.at (text_from t p stack)
 
-pub begins : {t : Table} {stack output : List ℕ} {root : D.Row} → record {
+pub begins : {t : SoundRows} {stack output : List ℕ} {root : D.Row} → record {
   among : root.0 < t.used;
   stack_words : t.used ≤ length stack;
   room : length (plain (term_of t root.0)) ≤ length output;
@@ -40,7 +40,7 @@ begins r = record {
   part = part_none _ 0 _;
 }
 
-module _ {t : Table} {output₀ : List ℕ} {root : ℕ} {stack output : List ℕ} {p : Place} (w : Storing t output₀ root stack output p) where
+module _ {t : SoundRows} {output₀ : List ℕ} {root : ℕ} {stack output : List ℕ} {p : Place} (w : Storing t output₀ root stack output p) where
   -- a row comes next
   module _ {row : D.Row} (some : p.next ≡ Some row) where
     text-first : text_from t p stack ≡ coming t row.0 (last_first stack p.depth)

@@ -7,19 +7,19 @@ use lib.ListN.{length, set}
 use Rattle.std.specs.Prelude.{Some, None, MatchOption}
 use Rattle.table.specs.Words.{last_first}
 use Rattle.table.proofs.Rows.{pushed}
-use Rattle.text.specs.declared.rows.Table.{Table}
+use Rattle.text.specs.declared.rows.SoundRows.{SoundRows}
 use Rattle.text.specs.declared.walk.Place.{Place}
 use Rattle.text.specs.Walk.{pending, coming, Above, Falling, coming_next, ReadyNext, Partly}
 
 -- after the turn of the frame at `top` the text goes on at the place p
-abbrev pub Turned : Table → ℕ → List ℕ → ℕ → List ℕ → Place → List ℕ → List ℕ → Type 0
+abbrev pub Turned : SoundRows → ℕ → List ℕ → ℕ → List ℕ → Place → List ℕ → List ℕ → Type 0
 Turned t top output₀ end₀ text₀ p stack output = record {
   depth : MatchOption p.next (p.depth ≡ top) (λ row. p.depth ≡ top + 1);
   ready_next : ReadyNext t p.next (last_first stack p.depth);
   partly : Partly output₀ end₀ text₀ output p.at (coming_next t p.next (last_first stack p.depth));
 }
 
-module _ (t : Table) (top : ℕ) {output₀ : List ℕ} {end₀ : ℕ} {text₀ output : List ℕ} {at : ℕ} (stack : List ℕ) where
+module _ (t : SoundRows) (top : ℕ) {output₀ : List ℕ} {end₀ : ℕ} {text₀ output : List ℕ} {at : ℕ} (stack : List ℕ) where
   -- the frame is done
   pub turned-done : Falling t (last_first stack top) → Partly output₀ end₀ text₀ output at (pending t (last_first stack top))
       → Turned t top output₀ end₀ text₀ (record { next = None; depth = top; at = at }) stack output

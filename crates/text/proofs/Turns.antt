@@ -11,7 +11,7 @@ use Rattle.std.specs.Prelude.{None}
 use Rattle.format.specs.Text.{between}
 use Rattle.format.specs.Rows.{Row, row_room, span_of, is_tuple_kind, cons_kind, field_kind, tag_kind}
 use Rattle.table.specs.Words.{last_first, row_in}
-use Rattle.text.specs.declared.rows.Table.{Table}
+use Rattle.text.specs.declared.rows.SoundRows.{SoundRows}
 use Rattle.text.specs.declared.walk.Place.{Place}
 use Rattle.text.specs.Rows.{row_used}
 use Rattle.text.specs.Walk.{frame_row, pending, coming_fields, Frame, of_cell, of_field, of_tag, Above, Falling}
@@ -20,19 +20,19 @@ use Rattle.text.proofs.Frames.{above-used, above-room, above_lower, falling_belo
 use Rattle.text.proofs.Turned.{Turned, turned-done}
 
 -- the frame at `top` of the stack has its turn
-pub record Turn (t : Table) (stack output : List ℕ) (top at : ℕ) : Type 0 where
+pub record Turn (t : SoundRows) (stack output : List ℕ) (top at : ℕ) : Type 0 where
   pub falling : Falling t (get_or stack top 0 ∷ last_first stack top)
   pub room : at + length (pending t (get_or stack top 0 ∷ last_first stack top)) ≤ length output
 
 -- as it is required
-pub turn_of : {t : Table} {stack output : List ℕ} {top at : ℕ} → record {
+pub turn_of : {t : SoundRows} {stack output : List ℕ} {top at : ℕ} → record {
   top_in_bounds : top < length stack;
   falling : Falling t (get_or stack top 0 ∷ last_first stack top);
   room : at + length (pending t (get_or stack top 0 ∷ last_first stack top)) ≤ length output;
 } → Turn t stack output top at
 turn_of r = record { falling = r.falling; room = r.room }
 
-module _ {t : Table} {stack output : List ℕ} {top at : ℕ} (w : Turn t stack output top at) where
+module _ {t : SoundRows} {stack output : List ℕ} {top at : ℕ} (w : Turn t stack output top at) where
   abbrev e : ℕ
   e = get_or stack top 0
 

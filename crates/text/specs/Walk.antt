@@ -8,7 +8,7 @@ use Rattle.format.specs.Text.{between, text_on, fields_on}
 use Rattle.format.specs.Rows.{Row, span_of, fields_of, cons_kind, field_kind, tag_kind}
 use Rattle.format.specs.declared.Row as D
 use Rattle.text.specs.Rows.{row_used, term_of}
-use Rattle.text.specs.declared.rows.Table.{Table}
+use Rattle.text.specs.declared.rows.SoundRows.{SoundRows}
 
 -- a frame is a row's number, to which the bound is added where the row is a list cell whose item is begun
 unfoldable pub frame_row : ℕ → ℕ
@@ -23,7 +23,7 @@ unfoldable pub first_named : Row → ℕ
 first_named r = cond (eqb r.kind field_kind) r.first (cond (eqb r.kind cons_kind) r.second r.third)
 
 -- the rows of a sound table
-module _ (t : Table) where
+module _ (t : SoundRows) where
   -- what is still to come of a frame, in front of what comes after it. Of a list cell, whose rest is stored: its item, unless that is begun, and `&`; of a
   -- tuple's field, which is stored: the fields after it and `}`; of a tag, whose inner text is stored: the tag
   unfoldable pub frame_on : ℕ → List ℕ → List ℕ

@@ -7,7 +7,7 @@ ghost use Rattle.measure.specs.Lengths.{named};
 ghost use Rattle.text.specs.Rows.{term_of};
 ghost use Rattle.text.specs.Stack.{on_stack, room_on};
 
-use crate::rows::Table;
+use crate::rows::SoundRows;
 use crate::stack::Stack;
 use format::{Row, kind};
 use measure::length;
@@ -32,7 +32,7 @@ fn push_named(stack: &mut Stack, words: RowWords)
 
 // Whether the plain text of a sound table's root has room. The stack, which has a word for each row used, holds the rows that are still to be counted. The
 // count stops as soon as it has passed the room.
-pub(crate) fn fits(table: Table, root: Row, stack: &mut [u32], room: usize) -> bool
+pub(crate) fn fits(table: SoundRows, root: Row, stack: &mut [u32], room: usize) -> bool
     requires among { root.0 < table.used }
     requires stack_words { table.used ≤ length stack.old }
     ensures { result ≡ leb (length (plain (term_of table.entry root.0))) room }

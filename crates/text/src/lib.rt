@@ -10,7 +10,8 @@ ghost use Rattle.text.specs.Answers.{written_as, write_rows};
 
 use format::refusal::Refusal;
 use format::{Row, bound};
-use rows::Table;
+use rows::SoundRows;
+use table::Table;
 
 mod count;
 mod room;
@@ -34,59 +35,50 @@ fn write_rows(
     if !measure::judge(message, rows, stack) {
         return Err(Refusal::Unsound);
     }
-    let table = Table {
+    let sound = SoundRows {
         message,
         rows,
         used: stack.len(),
     };
-    if !room::fits(table, root, stack, output.len()) {
+    if !room::fits(sound, root, stack, output.len()) {
         return Err(Refusal::TooLong);
     }
-    Ok(store::store_text(table, root, stack, output))
+    Ok(store::store_text(sound, root, stack, output))
 }
 
 // Writes where the table is sound. The scratch, which has a word for each row used, is left as the walk leaves it.
-fn write_table(
-    message: &[u8],
-    rows: &[u32],
-    used: u32,
-    root: Row,
-    scratch: &mut [u32],
-    output: &mut [u8],
-) -> Result<usize, Refusal>
-    requires { (length message.now ≤ message_bound) × (used ≤ length scratch.old) }
-    ensures { written_as result (zeroed scratch.old) output.new ≡ write_answer message.now rows.now used root.0 scratch.old output.old }
+fn write_table(table: Table, scratch: &mut [u32], output: &mut [u8]) -> Result<usize, Refusal>
+    requires { (length table.message.now ≤ message_bound) × (table.used ≤ length scratch.old) }
+    ensures { written_as result (zeroed scratch.old) output.new ≡ write_answer table.entry.message.now table.entry.rows.now table.entry.used table.entry.root.0 scratch.old output.old }
 {
-    if !sound::count_fits(rows, used) {
+    if !sound::count_fits(table.rows, table.used) {
         return Err(Refusal::Unsound);
     }
-    if !sound::root_among(used, root) {
+    if !sound::root_among(table.used, table.root) {
         return Err(Refusal::Unsound);
     }
-    let n = used as usize;
-    write_rows(message, rows, root, &mut scratch[..n], output)
+    let n = table.used as usize;
+    write_rows(
+        table.message,
+        table.rows,
+        table.root,
+        &mut scratch[..n],
+        output,
+    )
 }
 
-// Writes the plain text of row `root` of a table of `used` rows at the head of the output, and answers how many bytes it has.
-// The scratch is working memory, a word for each row used.
+// Writes the plain text of a table's root at the head of the output, and answers how many bytes it has. The scratch is working memory, a word for each row used.
 // A refusal changes no output byte; after all but 1 and 2 the scratch is zero.
-pub fn write(
-    message: &[u8],
-    rows: &[u32],
-    used: u32,
-    root: Row,
-    scratch: &mut [u32],
-    output: &mut [u8],
-) -> Result<usize, Refusal>
-    ensures { written_as result scratch.new output.new ≡ write_answer message.now rows.now used root.0 scratch.old output.old }
+pub fn write(table: Table, scratch: &mut [u32], output: &mut [u8]) -> Result<usize, Refusal>
+    ensures { written_as result scratch.new output.new ≡ write_answer table.entry.message.now table.entry.rows.now table.entry.used table.entry.root.0 scratch.old output.old }
 {
-    if bound::MESSAGE_BYTES < message.len() {
+    if bound::MESSAGE_BYTES < table.message.len() {
         return Err(Refusal::OverBound);
     }
-    if scratch.len() < used as usize {
+    if scratch.len() < table.used as usize {
         return Err(Refusal::ShortTable);
     }
-    let answer = write_table(message, rows, used, root, scratch, output);
+    let answer = write_table(table, scratch, output);
     table::clear(scratch);
     answer
 }

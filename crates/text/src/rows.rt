@@ -5,7 +5,7 @@ ghost use Rattle.format.specs.Sound.{sound_rows};
 
 // A table whose first `used` rows are sound, and the message that they are sound against.
 #[derive(Clone, Copy)]
-pub(crate) struct Table<'a> {
+pub(crate) struct SoundRows<'a> {
     pub message: &'a [u8],
     pub rows: &'a [u32],
     pub used: usize,

@@ -3,13 +3,13 @@ ghost use Rattle.std.specs.Prelude.{◌≡◌, ◌++◌, ◌≤◌, ◌<◌, len
 ghost use Rattle.format.specs.Text.{plain};
 ghost use Rattle.text.specs.Rows.{term_of};
 
-use crate::rows::Table;
+use crate::rows::SoundRows;
 use crate::walk;
 use crate::walk::Place;
 use format::{Row, byte};
 
 // Stores the plain text of a sound table's root, and answers how many bytes it has. The stack has a word for each row used.
-pub(crate) fn store_text(table: Table, root: Row, stack: &mut [u32], output: &mut [u8]) -> usize
+pub(crate) fn store_text(table: SoundRows, root: Row, stack: &mut [u32], output: &mut [u8]) -> usize
     requires among { root.0 < table.used }
     requires stack_words { table.used ≤ length stack.old }
     requires room { length (plain (term_of table root.0)) ≤ length output.old }

@@ -5,7 +5,7 @@ ghost use Rattle.format.specs.Rows.{is_tuple_kind, cons_kind};
 ghost use Rattle.table.specs.Words.{row_of, last_first, row_in};
 ghost use Rattle.text.specs.Walk.{open_bytes, first_named, frame_row, pending, coming, coming_fields, Above, Falling, coming_next, ReadyNext, Partly};
 
-use crate::rows::Table;
+use crate::rows::SoundRows;
 use format::{Offset, Row, bound, byte, kind};
 use leaves::leaf;
 use table::RowWords;
@@ -55,7 +55,7 @@ fn begin(output: &mut [u8], at: usize, words: RowWords) -> Begun
 // `stack` and `depth`, `output` and `at` stay parameters, here and below: a `Stack`, as the count has, would put two clauses more on each function, that
 // the same words are lent and as many of them.
 pub(crate) fn put_first(
-    table: Table,
+    table: SoundRows,
     stack: &mut [u32],
     depth: usize,
     row: Row,
@@ -92,7 +92,7 @@ pub(crate) fn put_first(
 
 // Stores the fields of a tuple from row `rest` on, and `}`; or those before one that is no leaf, which comes next. The frame at `top` is the tuple's.
 fn put_fields(
-    table: Table,
+    table: SoundRows,
     stack: &mut [u32],
     top: usize,
     rest: Row,
@@ -134,7 +134,7 @@ fn put_fields(
 
 // Stores the item of a list cell and `&`; or nothing yet where the item is no leaf, and comes next. The frame at `top` is the cell's.
 fn put_item(
-    table: Table,
+    table: SoundRows,
     stack: &mut [u32],
     top: usize,
     item: Row,
@@ -177,7 +177,7 @@ fn put_item(
 }
 
 // Stores what is still to come of the frame at `top`, up to a row that is no leaf.
-fn put_frame(table: Table, stack: &mut [u32], top: usize, output: &mut [u8], at: usize) -> Place
+fn put_frame(table: SoundRows, stack: &mut [u32], top: usize, output: &mut [u8], at: usize) -> Place
     requires top_in_bounds { top < length stack.old }
     requires falling { Falling table (get_or stack.old top 0 ∷ last_first stack.old top) }
     requires room { at + length (pending table (get_or stack.old top 0 ∷ last_first stack.old top)) ≤ length output.old }
@@ -204,7 +204,12 @@ fn put_frame(table: Table, stack: &mut [u32], top: usize, output: &mut [u8], at:
 }
 
 // Stores what is still to come of the frames, up to a row that is no leaf.
-pub(crate) fn put_rest(table: Table, stack: &mut [u32], output: &mut [u8], first: Place) -> Place
+pub(crate) fn put_rest(
+    table: SoundRows,
+    stack: &mut [u32],
+    output: &mut [u8],
+    first: Place,
+) -> Place
     requires stack_words { table.used ≤ length stack.old }
     requires ready_next { ReadyNext table first.next (last_first stack.old first.depth) }
     requires room { first.at + length (coming_next table first.next (last_first stack.old first.depth)) ≤ length output.old }

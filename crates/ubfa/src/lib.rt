@@ -14,6 +14,7 @@ ghost use Rattle.ubfa.specs.Answers.{decoded_struct, written_struct, compared_st
 use decoder::Accepted;
 use format::Row;
 use format::refusal::{Refusal, Refused};
+use table::Table;
 
 // 0, bytes consumed, root row and rows used; or a refusal's number, its place, 0 and 0.
 #[repr(C)]
@@ -121,6 +122,18 @@ impl From<Result<i64, Refusal>> for UbfaWord {
     }
 }
 
+// A table as it is lent.
+fn table_of<'a>(message: &'a [u8], rows: &'a [u32], used: u32, root: u32) -> Table<'a>
+    ensures { (result.message.now ≡ message.now) × (result.rows.now ≡ rows.now) × (result.used ≡ used) × (result.root.0 ≡ root) }
+{
+    Table {
+        message,
+        rows,
+        used,
+        root: Row(root),
+    }
+}
+
 // Decodes a message into `rows`; the other tables are working memory.
 #[unsafe(no_mangle)]
 pub extern "C" fn ubfa_decode(
@@ -147,7 +160,7 @@ pub extern "C" fn ubfa_write(
 ) -> UbfaWritten
     ensures { written_struct result scratch.new output.new ≡ write_answer message.now rows.now used root scratch.old output.old }
 {
-    text::write(message, rows, used, Row(root), scratch, output).into()
+    text::write(table_of(message, rows, used, root), scratch, output).into()
 }
 
 // Says whether the plain texts of two rows are the same bytes; the scratch is working memory.
@@ -166,14 +179,8 @@ pub extern "C" fn ubfa_compare(
     ensures { compared_struct result scratch.new ≡ compare_answer message_a.now rows_a.now used_a root_a message_b.now rows_b.now used_b root_b scratch.old }
 {
     comparison::compare(
-        message_a,
-        rows_a,
-        used_a,
-        Row(root_a),
-        message_b,
-        rows_b,
-        used_b,
-        Row(root_b),
+        table_of(message_a, rows_a, used_a, root_a),
+        table_of(message_b, rows_b, used_b, root_b),
         scratch,
     )
     .into()
@@ -190,5 +197,5 @@ pub extern "C" fn ubfa_read_word(
 ) -> UbfaWord
     ensures { word_struct result ≡ word_answer message.now rows.now used row k }
 {
-    words::read_word(message, rows, used, Row(row), k).into()
+    words::read_word(table_of(message, rows, used, row), k).into()
 }

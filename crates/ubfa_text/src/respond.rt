@@ -5,6 +5,7 @@ ghost use Rattle.ubfa_text.specs.Response.{program_tables, line, line_says, InOu
 
 use format::refusal::{Refusal, Refused};
 use format::{Offset, ROW_WORDS, bound};
+use table::Table;
 
 // Rows, which are as many as the words of scratch, and words of stack and marks.
 const ROWS: usize = 1024;
@@ -34,5 +35,11 @@ pub(crate) fn respond(message: &[u8], output: &mut [u8]) -> Result<usize, Refuse
     let mut registers = [0u32; bound::REGISTER_WORDS];
     let mut scratch = [0u32; ROWS];
     let read = decoder::decode(message, &mut rows, &mut stack, &mut marks, &mut registers)?;
-    text::write(message, &rows, read.used, read.root, &mut scratch, output).map_err(unwritten)
+    let table = Table {
+        message,
+        rows: &rows,
+        used: read.used,
+        root: read.root,
+    };
+    text::write(table, &mut scratch, output).map_err(unwritten)
 }

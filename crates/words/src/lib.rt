@@ -13,7 +13,7 @@ ghost use Rattle.words.specs.Known.{format_of, word_of_rows};
 use crate::layout::Layout;
 use format::refusal::Refusal;
 use format::{Row, bound, kind};
-use table::RowWords;
+use table::{RowWords, Table};
 
 mod formats;
 mod join;
@@ -69,17 +69,17 @@ fn word_of_rows(message: &[u8], tag: RowWords, block: RowWords, k: u64) -> Resul
     word_named(span(message, tag), span(message, block), k)
 }
 
-// Reads word k, from 0, of the sensor block at a row, which stands in the root's place. Nothing is lent for writing.
-pub fn read_word(message: &[u8], rows: &[u32], used: u32, row: Row, k: u64) -> Result<i64, Refusal>
-    ensures { word_as result ≡ word_answer message.now rows.now used row.0 k }
+// Reads word k, from 0, of the sensor block at a table's root. Nothing is lent for writing.
+pub fn read_word(table: Table, k: u64) -> Result<i64, Refusal>
+    ensures { word_as result ≡ word_answer table.entry.message.now table.entry.rows.now table.entry.used table.entry.root.0 k }
 {
-    if bound::MESSAGE_BYTES < message.len() {
+    if bound::MESSAGE_BYTES < table.message.len() {
         return Err(Refusal::OverBound);
     }
-    if !sound::sound_table(message, rows, used, row) {
+    if !sound::sound_table(table) {
         return Err(Refusal::Unsound);
     }
-    let tag = table::load_row(rows, row);
-    let block = table::load_row(rows, Row(tag.third));
-    word_of_rows(message, tag, block, k)
+    let tag = table::load_row(table.rows, table.root);
+    let block = table::load_row(table.rows, Row(tag.third));
+    word_of_rows(table.message, tag, block, k)
 }

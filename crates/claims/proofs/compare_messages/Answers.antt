@@ -25,5 +25,8 @@ pub returns : goal.returns
 returns c =
     let first = value First _ _ (sym (replaced First _ _ c.map_err.ensures.cases (λ e d made. made)) ∙ c.in_ok-a.was) in
     let second = value Second _ _ (sym (replaced Second _ _ c.map_err-2.ensures.cases (λ e d made. made)) ∙ c.in_ok-b.was) in
-    let told = both-accepted _ _ _ _ _ _ _ c.decode.ensures _ first _ _ c.decode-2.ensures _ second _ _ c.compare.ensures in
+    let a = c.decoded.ensures in
+    let b = c.decoded-2.ensures in
+    let compared = rw (a.0, a.1, a.2, a.3, b.0, b.1, b.2, b.3) at c.compare.ensures in
+    let told = both-accepted _ _ _ _ _ _ _ c.decode.ensures _ first _ _ c.decode-2.ensures _ second _ _ compared in
     record { value = rw c.or.ensures told.0; buffers_after = told.1 }

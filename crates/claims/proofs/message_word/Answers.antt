@@ -14,6 +14,7 @@ returns-in_err-read c =
 
 pub returns : goal.returns
 returns c =
-    let told = decoded _ _ _ _ _ c.decode.ensures _ c.in_ok-read.was _ c.read_word.ensures in
+    let table = c.decoded.ensures in
+    let told = decoded _ _ _ _ _ c.decode.ensures _ c.in_ok-read.was _ (rw (table.0, table.1, table.2, table.3) at c.read_word.ensures) in
     let same : c.map_err.result ≡ with_error NoWord c.read_word.result = replaced NoWord _ _ c.map_err.ensures.cases (λ e d made. made) in
     record { value = rw same told.0; tables_after = told.1 }

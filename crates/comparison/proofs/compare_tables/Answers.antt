@@ -15,18 +15,18 @@ returns-then-not-sound_table-2 c =
     let p = c.requires in
     laws.unsound-second _ _ _ _ _ _ _ _ _ p.0 p.1 p.2 (sym c.sound_table.ensures ∙ c.if-not-sound_table.false) (sym c.sound_table-2.ensures ∙ c.if-not-sound_table-2.true)
 
-pub invariant_of-a : goal.invariant_of-a
-invariant_of-a c =
-    record { sound = sound-side (side c.args.message_a.now c.args.rows_a.now c.args.used_a) _ (sym c.sound_table.ensures ∙ c.if-not-sound_table.false) c.requires.0 }
+pub invariant_of-first : goal.invariant_of-first
+invariant_of-first c =
+    record { sound = sound-side (side c.args.a.message.now c.args.a.rows.now c.args.a.used) _ (sym c.sound_table.ensures ∙ c.if-not-sound_table.false) c.requires.0 }
 
-pub invariant_of-b : goal.invariant_of-b
-invariant_of-b c =
-    record { sound = sound-side (side c.args.message_b.now c.args.rows_b.now c.args.used_b) _ (sym c.sound_table-2.ensures ∙ c.if-not-sound_table-2.false) c.requires.1 }
+pub invariant_of-second : goal.invariant_of-second
+invariant_of-second c =
+    record { sound = sound-side (side c.args.b.message.now c.args.b.rows.now c.args.b.used) _ (sym c.sound_table-2.ensures ∙ c.if-not-sound_table-2.false) c.requires.1 }
 
 pub same_roots-same-requires-clause-among : goal.same_roots-same-requires-clause-among
 same_roots-same-requires-clause-among c = (
-  root-among (side c.args.message_a.now c.args.rows_a.now c.args.used_a) _ (sym c.sound_table.ensures ∙ c.if-not-sound_table.false),
-  root-among (side c.args.message_b.now c.args.rows_b.now c.args.used_b) _ (sym c.sound_table-2.ensures ∙ c.if-not-sound_table-2.false),
+  root-among (side c.args.a.message.now c.args.a.rows.now c.args.a.used) _ (sym c.sound_table.ensures ∙ c.if-not-sound_table.false),
+  root-among (side c.args.b.message.now c.args.b.rows.now c.args.b.used) _ (sym c.sound_table-2.ensures ∙ c.if-not-sound_table-2.false),
 )
 
 pub returns : goal.returns

@@ -10,8 +10,8 @@ judge-requires c = count_room _ _ _ c.requires
 pub returns-then-not-judge : goal.returns-then-not-judge
 returns-then-not-judge c = λ scratch. rows_fail _ _ _ scratch _ (sym c.judge.ensures.value ∙ c.if-not-judge.true)
 
-pub invariant_of-table : goal.invariant_of-table
-invariant_of-table c =
+pub invariant_of-sound : goal.invariant_of-sound
+invariant_of-sound c =
     let sound = sym c.judge.ensures.value ∙ c.if-not-judge.false in
     rw c.judge.auto.lengths (record { fits = count_room _ _ _ c.requires; sound = subst T (sym sound) tt })
 

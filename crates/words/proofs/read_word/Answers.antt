@@ -4,13 +4,13 @@ use Rattle.words.specs.Answers.{word_as}
 use Rattle.words.proofs.Rows as laws
 use Rattle.words.proofs.read_word.Goals as goal
 
-pub returns-then-message-gt-MESSAGE_BYTES : goal.returns-then-message-gt-MESSAGE_BYTES
+pub returns-then-table-gt-MESSAGE_BYTES : goal.returns-then-table-gt-MESSAGE_BYTES
 unfolding word_as
-returns-then-message-gt-MESSAGE_BYTES c = laws.over-bound _ _ _ _ _ c.if-message-gt-MESSAGE_BYTES.true
+returns-then-table-gt-MESSAGE_BYTES c = laws.over-bound _ _ _ _ _ c.if-table-gt-MESSAGE_BYTES.true
 
 pub returns-then-not-sound_table : goal.returns-then-not-sound_table
 unfolding word_as
-returns-then-not-sound_table c = laws.unsound _ _ _ _ _ c.if-message-gt-MESSAGE_BYTES.false (sym c.sound_table.ensures ∙ c.if-not-sound_table.true)
+returns-then-not-sound_table c = laws.unsound _ _ _ _ _ c.if-table-gt-MESSAGE_BYTES.false (sym c.sound_table.ensures ∙ c.if-not-sound_table.true)
 
 pub word_of_rows-requires : goal.word_of_rows-requires
 word_of_rows-requires c e = laws.spans _ _ _ _ (sym c.sound_table.ensures ∙ c.if-not-sound_table.false) _ _ c.load_row-tag.ensures c.load_row-block.ensures e
@@ -18,4 +18,4 @@ word_of_rows-requires c e = laws.spans _ _ _ _ (sym c.sound_table.ensures ∙ c.
 pub returns : goal.returns
 returns c =
     c.word_of_rows.ensures
-    ∙ laws.table-word _ _ _ _ (sym c.sound_table.ensures ∙ c.if-not-sound_table.false) _ _ c.load_row-tag.ensures c.load_row-block.ensures _ c.if-message-gt-MESSAGE_BYTES.false
+    ∙ laws.table-word _ _ _ _ (sym c.sound_table.ensures ∙ c.if-not-sound_table.false) _ _ c.load_row-tag.ensures c.load_row-block.ensures _ c.if-table-gt-MESSAGE_BYTES.false
