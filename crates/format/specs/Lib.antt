@@ -12,6 +12,7 @@ pub mod Meaning
 pub mod Bits
 pub mod Bound
 pub mod Rows
+pub mod Kinds
 -- 'Plain text', with refusal 16
 pub mod Text
 pub mod Sound

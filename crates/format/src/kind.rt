@@ -1,19 +1,41 @@
 //! The kinds of rows (01, 'Row table'), numbered as `Rows` defines them.
+ghost use Rattle.format.specs.Kinds.{NamesKind};
 
-pub const INTEGER: u32 = 1;
+// Each with its number: the first is 1, and each is one more than the one before.
+#[derive(Clone, Copy, Debug, PartialEq, Eq)]
+pub enum Kind {
+    Integer = 1,
+    Atom,
+    String,
+    Binary,
+    Nil,
+    Cons,
+    End,
+    Field,
+    Tag,
+}
 
-pub const ATOM: u32 = 2;
+// A word that is no kind's number.
+#[derive(Clone, Copy, Debug, PartialEq, Eq)]
+pub struct UnknownKind;
 
-pub const STRING: u32 = 3;
+impl TryFrom<u32> for Kind {
+    type Error = UnknownKind;
 
-pub const BINARY: u32 = 4;
+    ghost try_from_gives = { NamesKind };
 
-pub const NIL: u32 = 5;
-
-pub const CONS: u32 = 6;
-
-pub const END: u32 = 7;
-
-pub const FIELD: u32 = 8;
-
-pub const TAG: u32 = 9;
+    fn try_from(number: u32) -> Result<Self, UnknownKind> {
+        match number {
+            1 => Ok(Kind::Integer),
+            2 => Ok(Kind::Atom),
+            3 => Ok(Kind::String),
+            4 => Ok(Kind::Binary),
+            5 => Ok(Kind::Nil),
+            6 => Ok(Kind::Cons),
+            7 => Ok(Kind::End),
+            8 => Ok(Kind::Field),
+            9 => Ok(Kind::Tag),
+            _ => Err(UnknownKind),
+        }
+    }
+}

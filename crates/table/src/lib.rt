@@ -7,7 +7,8 @@ ghost use Rattle.format.specs.Answer.{zeroed};
 ghost use Rattle.format.specs.Rows.{row_words, words_of, row_room};
 ghost use Rattle.table.specs.Words.{row_of, row_in, stored_rows, between, field_rows, tuple_rows, cleared_from};
 
-use format::{Depth, ROW_WORDS, Row, bound, kind};
+use format::kind::Kind;
+use format::{Depth, ROW_WORDS, Row, bound};
 
 // The words of a row: its kind and the other three.
 #[derive(Clone, Copy, Default)]
@@ -98,7 +99,7 @@ fn put_fields(rows: &mut [u32], stack: &[u32], base: Depth, depth: Depth, end: R
             rows,
             (n as usize) * ROW_WORDS,
             RowWords {
-                kind: kind::FIELD,
+                kind: Kind::Field as u32,
                 first: field,
                 second: rest,
                 third: 0,
@@ -118,7 +119,7 @@ pub fn store_tuple(rows: &mut [u32], stack: &[u32], base: Depth, depth: Depth, n
         rows,
         (next.0 as usize) * ROW_WORDS,
         RowWords {
-            kind: kind::END,
+            kind: Kind::End as u32,
             ..RowWords::default()
         },
     );
