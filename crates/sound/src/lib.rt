@@ -7,7 +7,8 @@ ghost use Rattle.format.specs.Sound.{spelled, in_slice, spelled_in, count_fits, 
 ghost use Rattle.sound.specs.Parts.{sound_words, quote_of, sound_text};
 ghost use Rattle.table.specs.Words.{row_of, row_in};
 
-use format::{Row, byte, kind};
+use format::kind::Kind;
+use format::{Row, byte};
 use table::{RowWords, Table, read_row, row_room};
 
 // Whether a span lies inside the slice. Its end is counted in 64 bits, where no sum of two words wraps.
@@ -84,19 +85,13 @@ fn sound_cell(n: Row, words: RowWords) -> bool
 pub fn sound_words(message: &[u8], n: Row, words: RowWords) -> bool
     ensures { result ≡ sound_words message.now n.0 (row_of words) }
 {
-    let k = words.kind;
-    // an arm for each kind: with or-patterns a text of tuples takes 8 % more instructions to write
-    match k {
-        kind::INTEGER => words.third == 0,
-        kind::ATOM => sound_span(message, words),
-        kind::STRING => sound_span(message, words),
-        kind::BINARY => sound_span(message, words),
-        kind::NIL => sound_end(words),
-        kind::CONS => sound_cell(n, words),
-        kind::END => sound_end(words),
-        kind::FIELD => sound_cell(n, words),
-        kind::TAG => words.third < n.0 && in_slice(message, words.first, words.second),
-        _ => false,
+    match Kind::try_from(words.kind) {
+        Ok(Kind::Integer) => words.third == 0,
+        Ok(Kind::Atom | Kind::String | Kind::Binary) => sound_span(message, words),
+        Ok(Kind::Nil | Kind::End) => sound_end(words),
+        Ok(Kind::Cons | Kind::Field) => sound_cell(n, words),
+        Ok(Kind::Tag) => words.third < n.0 && in_slice(message, words.first, words.second),
+        Err(_) => false,
     }
 }
 
@@ -105,10 +100,10 @@ pub fn sound_words(message: &[u8], n: Row, words: RowWords) -> bool
 fn quote_of(k: u32) -> u8
     ensures { result ≡ quote_of k }
 {
-    match k {
-        kind::ATOM => byte::ATOM_QUOTE,
-        kind::STRING => byte::STRING_QUOTE,
-        kind::TAG => byte::TAG_QUOTE,
+    match Kind::try_from(k) {
+        Ok(Kind::Atom) => byte::ATOM_QUOTE,
+        Ok(Kind::String) => byte::STRING_QUOTE,
+        Ok(Kind::Tag) => byte::TAG_QUOTE,
         _ => 0,
     }
 }
@@ -128,7 +123,7 @@ pub fn sound_text(message: &[u8], words: RowWords) -> bool
 fn is_list(k: u32) -> bool
     ensures { result ≡ is_list_kind k }
 {
-    matches!(k, kind::NIL | kind::CONS)
+    matches!(Kind::try_from(k), Ok(Kind::Nil | Kind::Cons))
 }
 
 // Whether a row of this kind is a tuple, or the rest of one.
@@ -136,7 +131,7 @@ fn is_list(k: u32) -> bool
 fn is_tuple(k: u32) -> bool
     ensures { result ≡ is_tuple_kind k }
 {
-    matches!(k, kind::END | kind::FIELD)
+    matches!(Kind::try_from(k), Ok(Kind::End | Kind::Field))
 }
 
 // Whether a row of one kind may have a rest of the other: a list cell a list, a tuple's field a tuple. No other row has a rest, so
@@ -145,9 +140,9 @@ fn is_tuple(k: u32) -> bool
 pub fn sound_rest(kind: u32, rest: u32) -> bool
     ensures { result ≡ sound_rest kind rest }
 {
-    match kind {
-        kind::CONS => is_list(rest),
-        kind::FIELD => is_tuple(rest),
+    match Kind::try_from(kind) {
+        Ok(Kind::Cons) => is_list(rest),
+        Ok(Kind::Field) => is_tuple(rest),
         _ => true,
     }
 }
@@ -159,8 +154,8 @@ pub fn rest_fits(rows: &[u32], words: RowWords) -> bool
     ensures { result ≡ sound_rest words.kind (row_in rows.now words.second).kind }
 {
     let k = words.kind;
-    match k {
-        kind::CONS | kind::FIELD => sound_rest(k, read_row(rows, Row(words.second)).kind),
+    match Kind::try_from(k) {
+        Ok(Kind::Cons | Kind::Field) => sound_rest(k, read_row(rows, Row(words.second)).kind),
         _ => true,
     }
 }
