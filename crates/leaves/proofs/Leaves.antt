@@ -1,24 +1,20 @@
 -- The text of each kind of leaf: how it is stored part by part, and how many bytes it has.
 use Prim.Native.Nat.{ℕ, ◌+◌, ◌*◌, ◌-◌, ◌^◌, ◌≤◌, ◌<◌}
 use Prim.Native.Char.{code}
-use mathlib.Core.Path.{◌≡◌, sym, ap, ◌∙◌}
-use mathlib.Core.Logic.{◌⊎◌, inl, inr, ⊎_elim}
+use mathlib.Core.Path.{◌≡◌, ap, ◌∙◌}
 use mathlib.Core.Bool.{Bool, true, false}
 use mathlib.Core.List.{List, [], ◌∷◌, ◌++◌}
-use native.Mathlib.Nat.{eq-or-lt_of_le}
 use native.Mathlib.Omega.{arith}
-use Rattle.std.proofs.Common.{lit≤}
 use lib.ListN.{length, length-append}
 use lib.Seq.{sets}
-use lib.Dec.{eqb}
-use borrow.Author.Tests.{lt-ltb, le-ltb, ne_eqb}
+use borrow.Author.Tests.{lt-ltb, le-ltb}
 use Rattle.format.specs.Bits.{from_bits}
 use Rattle.format.specs.Term as T
 use Rattle.format.specs.Text.{natural_on, decimal_on, between, text_on}
-use Rattle.format.specs.Rows.{Row, span_of, integer_kind, atom_kind, string_kind, binary_kind, nil_kind, integer_of_row}
+use Rattle.format.specs.Rows.{span_of}
 use Rattle.format.proofs.Lists.{length-span}
 use Rattle.format.proofs.Sizes.{natural_onto}
-use Rattle.leaves.specs.Leaves.{integer_bytes, quote_of, count_bytes, span_bytes, is_span_kind, empty_tuple, leaf_bytes, Inside}
+use Rattle.leaves.specs.Leaves.{integer_bytes, quote_of, count_bytes, span_bytes}
 use Rattle.leaves.proofs.Stores.{Stored, stored-both}
 
 -- a count in front of a rest, and bytes between two quotes
@@ -85,16 +81,6 @@ module _ (message : List ℕ) (start n : ℕ) where
         let rest = stored-both first inner span (quote ∷ []) (b.0, omega (arith, b.1, length-span message start n h)) c in
         stored-both out at (quote ∷ []) (span ++ (quote ∷ [])) a rest
 
--- the count of a binary, and none of another kind
-module _ {k : ℕ} (n : ℕ) where
-  pub counted : k ≡ binary_kind → count_bytes k n ≡ natural_on n []
-  unfolding count_bytes
-  counted e = rw e
-
-  pub not-counted : (k ≡ binary_kind → ⊥) → count_bytes k n ≡ []
-  unfolding count_bytes
-  not-counted e = rw (ne_eqb k binary_kind e)
-
 -- an atom, a string or a binary: the count where it is a binary, and the span between its quotes
 module _ (message : List ℕ) (k start n : ℕ) {quote : ℕ} (e : quote ≡ quote_of k) where
   abbrev quoted : List ℕ
@@ -108,48 +94,3 @@ module _ (message : List ℕ) (k start n : ℕ) {quote : ℕ} (e : quote ≡ quo
       → Stored first inner quoted left next → Stored out at (span_bytes message k start n) left next
   unfolding span_bytes
   stored_bytes out at a b = stored-both out at (count_bytes k n) (between (quote_of k) (span_of message start n) []) a (rw e at b)
-
--- a leaf's bytes, written out: there is room for them, and they are stored
-module _ {leaf bytes : List ℕ} (e : leaf ≡ bytes) (at : ℕ) where
-  pub room_as : {room : ℕ} → at + length leaf ≤ room → at + length bytes ≤ room
-  room_as h = rw e at h
-
-  pub stored_as : (out : List ℕ) {left : List ℕ} {next : ℕ} → Stored out at bytes left next → Stored out at leaf left next
-  stored_as out s = rw e s
-
--- the kinds whose text is a span, by their numbers
-abbrev pub SpanKind : ℕ → Type 0
-SpanKind k = (k ≡ atom_kind) ⊎ ((k ≡ string_kind) ⊎ (k ≡ binary_kind))
-
-pub span-kind : (k : ℕ) → atom_kind ≤ k → k ≤ binary_kind → SpanKind k
-span-kind k l u =
-    let later = λ (m : atom_kind < k). inr (⊎_elim (λ e. inl (sym e)) (λ n. inr (omega arith)) (eq-or-lt_of_le m)) in
-    ⊎_elim (λ e. inl (sym e)) later (eq-or-lt_of_le l)
-
--- a leaf by its kind
-module _ (message : List ℕ) (r : Row) where
-  pub integer-leaf : r.kind ≡ integer_kind → leaf_bytes message r ≡ text_on (T.int (integer_of_row r)) []
-  unfolding leaf_bytes
-  integer-leaf k = rw k
-
-  -- an atom, a string or a binary
-  pub span-leaf : SpanKind r.kind → leaf_bytes message r ≡ span_bytes message r.kind r.first r.second
-  unfolding leaf_bytes is_span_kind
-  span-leaf k = ⊎_elim (λ e. rw e) (⊎_elim (λ e. rw e) (λ e. rw e)) k
-
-  pub span-inside : SpanKind r.kind → Inside message r → r.first + r.second ≤ length message
-  unfolding Inside
-  span-inside k h = ⊎_elim h.0 (⊎_elim h.1.0 h.1.1) k
-
-  pub nil-leaf : r.kind ≡ nil_kind → leaf_bytes message r ≡ code "#" ∷ []
-  unfolding leaf_bytes is_span_kind
-  nil-leaf k = rw k
-
-  -- any other kind
-  pub end-leaf : (r.kind < integer_kind) ⊎ (nil_kind < r.kind) → leaf_bytes message r ≡ empty_tuple
-  unfolding leaf_bytes is_span_kind
-  end-leaf h =
-      let no : (j : ℕ) → integer_kind ≤ j → j ≤ nil_kind → eqb r.kind j ≡ false =
-      λ j l u. ne_eqb r.kind j (λ e. ⊎_elim (λ x. omega arith) (λ x. omega arith) h)
-      in
-      rw (no 1 (lit≤ tt) (lit≤ tt), no 2 (lit≤ tt) (lit≤ tt), no 3 (lit≤ tt) (lit≤ tt), no 4 (lit≤ tt) (lit≤ tt), no 5 (lit≤ tt) (lit≤ tt))

@@ -5,11 +5,13 @@ ghost use Rattle.format.specs.Bits.{from_bits};
 ghost use Rattle.format.specs.Term as T;
 ghost use Rattle.format.specs.Text.{between, text_on};
 ghost use Rattle.format.specs.Rows.{span_of};
+ghost use Rattle.format.specs.Kinds.{kind_number};
 ghost use Rattle.table.specs.Words.{row_of};
 ghost use Rattle.leaves.specs.Leaves.{integer_bytes, quote_of, count_bytes, span_bytes, empty_tuple, is_leaf_kind, leaf_bytes, Inside};
 
 use crate::{decimal, span};
-use format::{Offset, byte, kind};
+use format::kind::Kind;
+use format::{Offset, byte};
 use table::{RowWords, SIGN_BIT, WORD_VALUES};
 
 // The sign and the magnitude of an integer.
@@ -90,35 +92,43 @@ pub fn put_quoted(
 
 // What stands before and after the bytes of an atom, a string or a binary.
 #[tactic(auto, unfolding(crate::specs::Leaves::quote_of))]
-fn quote_of(k: u32) -> u8
-    ensures { result ≡ quote_of k }
+fn quote_of(k: Kind) -> u8
+    ensures { result ≡ quote_of (kind_number k) }
 {
     match k {
-        kind::ATOM => byte::ATOM_QUOTE,
-        kind::STRING => byte::STRING_QUOTE,
-        // a binary, the only kind left
+        Kind::Atom => byte::ATOM_QUOTE,
+        Kind::String => byte::STRING_QUOTE,
+        // a binary; the other kinds have no such bytes
         _ => byte::TILDE,
     }
 }
 
 // Stores the count of n bytes from `at` on, where they are a binary's, and answers the place after it.
-fn put_count(output: &mut [u8], at: usize, k: u32, n: usize) -> usize
-    requires { at + length (count_bytes k n) ≤ length output.old }
-    ensures output_after { output.new ≡ sets output.old at (count_bytes k n) }
-    ensures value { result ≡ at + length (count_bytes k n) }
+#[tactic(auto, unfolding(crate::specs::Leaves::count_bytes))]
+fn put_count(output: &mut [u8], at: usize, k: Kind, n: usize) -> usize
+    requires { at + length (count_bytes (kind_number k) n) ≤ length output.old }
+    ensures output_after { output.new ≡ sets output.old at (count_bytes (kind_number k) n) }
+    ensures value { result ≡ at + length (count_bytes (kind_number k) n) }
 {
-    if k == kind::BINARY {
+    if k == Kind::Binary {
         return decimal::put_natural(output, at, n as u64);
     }
     at
 }
 
 // Stores an atom, a string or a binary from `at` on, and answers the place after it: one copy of the code for all three.
-fn put_bytes(message: &[u8], output: &mut [u8], at: usize, k: u32, start: Offset, n: usize) -> usize
+fn put_bytes(
+    message: &[u8],
+    output: &mut [u8],
+    at: usize,
+    k: Kind,
+    start: Offset,
+    n: usize,
+) -> usize
     requires span_inside { start.0 + n ≤ length message.now }
-    requires room { at + length (span_bytes message.now k start.0 n) ≤ length output.old }
-    ensures output_after { output.new ≡ sets output.old at (span_bytes message.now k start.0 n) }
-    ensures value { result ≡ at + length (span_bytes message.now k start.0 n) }
+    requires room { at + length (span_bytes message.now (kind_number k) start.0 n) ≤ length output.old }
+    ensures output_after { output.new ≡ sets output.old at (span_bytes message.now (kind_number k) start.0 n) }
+    ensures value { result ≡ at + length (span_bytes message.now (kind_number k) start.0 n) }
 {
     let quote = put_count(output, at, k, n);
     put_quoted(message, output, quote, quote_of(k), start, n)
@@ -129,7 +139,7 @@ fn put_bytes(message: &[u8], output: &mut [u8], at: usize, k: u32, start: Offset
 pub fn is_leaf(k: u32) -> bool
     ensures { result ≡ is_leaf_kind k }
 {
-    k <= kind::NIL || k == kind::END
+    k <= Kind::Nil as u32 || k == Kind::End as u32
 }
 
 // Stores the integer of a row from `at` on, and answers the place after it.
@@ -154,20 +164,22 @@ fn put_braces(output: &mut [u8], at: usize) -> usize
 
 // Stores a leaf's text from `at` on, and answers the place after it. Put into each of the walk's three calls: without, lists take up to 17 % more instructions.
 #[inline(always)]
+#[tactic(auto, unfolding(crate::specs::Leaves::leaf_bytes, crate::specs::Leaves::is_span_kind, crate::specs::Leaves::Inside, format::specs::Rows::integer_of_row))]
 pub fn put(message: &[u8], output: &mut [u8], at: usize, words: RowWords) -> usize
     requires inside { Inside message.now (row_of words) }
     requires room { at + length (leaf_bytes message.now (row_of words)) ≤ length output.old }
     ensures output_after { output.new ≡ sets output.old at (leaf_bytes message.now (row_of words)) }
     ensures value { result ≡ at + length (leaf_bytes message.now (row_of words)) }
 {
-    let k = words.kind;
     let start = Offset(words.first as usize);
     let n = words.second as usize;
-    match k {
-        kind::INTEGER => put_halves(output, at, words.first, words.second),
-        kind::ATOM | kind::STRING | kind::BINARY => put_bytes(message, output, at, k, start, n),
-        kind::NIL => put_byte(output, at, byte::HASH),
-        // a tuple's end, the only kind of leaf left
+    match Kind::try_from(words.kind) {
+        Ok(Kind::Integer) => put_halves(output, at, words.first, words.second),
+        Ok(k @ (Kind::Atom | Kind::String | Kind::Binary)) => put_bytes(
+            message, output, at, k, start, n,
+        ),
+        Ok(Kind::Nil) => put_byte(output, at, byte::HASH),
+        // a tuple's end; a row of no other kind is a leaf
         _ => put_braces(output, at),
     }
 }
