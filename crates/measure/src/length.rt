@@ -5,7 +5,7 @@ ghost use Rattle.format.specs.Term as T;
 ghost use Rattle.table.specs.Words.{row_of};
 ghost use Rattle.measure.specs.Lengths.{text_length, named, below, own_length, row_length, capped, length_in};
 
-use format::kind;
+use format::kind::Kind;
 use leaves::{decimal, leaf};
 use table::RowWords;
 
@@ -34,17 +34,16 @@ fn integer_length(high: u32, low: u32) -> u64
 pub fn own_length(words: RowWords) -> u64
     ensures { result ≡ own_length (row_of words) }
 {
-    let k = words.kind;
     let n = words.second as u64;
-    match k {
-        kind::INTEGER => integer_length(words.first, words.second),
-        kind::ATOM | kind::STRING => n + 2,
-        kind::BINARY => (decimal::digit_count(n) as u64) + (n + 2),
-        kind::NIL | kind::CONS => 1,
-        kind::END => 2,
-        kind::FIELD => 0,
-        // a tag, the only kind left in a sound table
-        _ => n + 2,
+    match Kind::try_from(words.kind) {
+        Ok(Kind::Integer) => integer_length(words.first, words.second),
+        Ok(Kind::Atom | Kind::String) => n + 2,
+        Ok(Kind::Binary) => (decimal::digit_count(n) as u64) + (n + 2),
+        Ok(Kind::Nil | Kind::Cons) => 1,
+        Ok(Kind::End) => 2,
+        Ok(Kind::Field) => 0,
+        // a tag; a sound table has no unknown kind
+        Ok(Kind::Tag) | Err(_) => n + 2,
     }
 }
 
@@ -63,11 +62,10 @@ pub(crate) fn row_length(lengths: &[u32], words: RowWords) -> u64
     requires { below (length lengths.now) (named (row_of words)) }
     ensures { result ≡ row_length (length_in lengths.now) (row_of words) }
 {
-    let k = words.kind;
-    match k {
-        kind::CONS => length_at(lengths, words.first) + length_at(lengths, words.second) + 1,
-        kind::FIELD => length_at(lengths, words.first) + length_at(lengths, words.second),
-        kind::TAG => length_at(lengths, words.third) + ((words.second as u64) + 2),
+    match Kind::try_from(words.kind) {
+        Ok(Kind::Cons) => length_at(lengths, words.first) + length_at(lengths, words.second) + 1,
+        Ok(Kind::Field) => length_at(lengths, words.first) + length_at(lengths, words.second),
+        Ok(Kind::Tag) => length_at(lengths, words.third) + ((words.second as u64) + 2),
         _ => own_length(words),
     }
 }
