@@ -3,14 +3,13 @@ use Prim.Native.Nat.{ℕ, suc, ◌+◌, ◌-◌, ◌^◌, ◌≤◌, ◌<◌}
 use Prim.Native.Char.{code}
 use mathlib.Core.Path.{◌≡◌, refl, ap, sym, ◌∙◌}
 use mathlib.Core.Bool.{Bool, true, false}
-use mathlib.Core.Logic.{◌⊎◌, inl, inr}
 use mathlib.Core.List.{List, [], ◌∷◌, ◌++◌}
 use native.Mathlib.Nat.{pow-suc, one-le-pow, pow-le-pow_right}
 use native.Mathlib.Omega.{arith}
 use lib.ListN.{length}
 use lib.Dec.{leb, ltb}
 use borrow.Author.Tests.{le-leb, lt-leb, leb-true, leb-false}
-use Rattle.format.specs.Rows.{Row, cons_kind, field_kind}
+use Rattle.format.specs.Rows.{Row}
 use Rattle.format.specs.Text.{plain}
 use Rattle.format.proofs.TableRows.{length-rows, judged}
 use Rattle.table.specs.Words.{row_in}
@@ -20,12 +19,7 @@ use Rattle.text.specs.Stack.{on_stack, room_on}
 use Rattle.text.specs.Rows.{rows_used, row_used, term_of}
 use Rattle.text.proofs.Frames.{found}
 use Rattle.measure.specs.Lengths.{text_length, named, own_length, total, row_length}
-use Rattle.measure.proofs.Lengths.{names-cell, names_field, text-after, by_names, right}
-
--- a list cell and a tuple's field name two rows
-pub names-two : (r : Row) → (r.kind ≡ cons_kind) ⊎ (r.kind ≡ field_kind) → named r ≡ r.first ∷ r.second ∷ []
-names-two r (inl k) = names-cell r k
-names-two r (inr k) = names_field r k
+use Rattle.measure.proofs.Lengths.{text-after, by_names, right}
 
 -- what is left to do: a row weighs more than the two that it names
 unfoldable pub work : List ℕ → ℕ

@@ -1,15 +1,13 @@
 -- The way from a row down to its first leaf.
 use Prim.Native.Nat.{ℕ, ◌+◌, ◌≤◌, ◌<◌}
-use Prim.Native.Char.{code}
 use mathlib.Core.Path.{◌≡◌, ◌∙◌}
 use mathlib.Core.Bool.{true, false}
 use mathlib.Core.List.{List, ◌∷◌, ◌++◌}
 use native.Mathlib.Numerals.{add-one}
 use native.Mathlib.Omega.{arith}
 use lib.ListN.{length, set, length-set}
-use borrow.Author.Tests.{ne_eqb}
 use lib.Seq.{sets, length-sets}
-use Rattle.format.specs.Rows.{Row, row_room, cons_kind, field_kind}
+use Rattle.format.specs.Rows.{Row, row_room}
 use Rattle.table.specs.Words.{last_first, row_in}
 use Rattle.table.proofs.Rows.{pushed, length-last_first}
 use Rattle.leaves.specs.Leaves.{is_leaf_kind, leaf_bytes, Inside}
@@ -18,30 +16,6 @@ use Rattle.text.specs.Rows.{row_used}
 use Rattle.text.specs.Walk.{open_bytes, first_named, pending, coming, Above, Falling, Partly}
 use Rattle.text.proofs.Partly.{part_none, part_then, part_room, put_fits, part_put}
 use Rattle.text.proofs.Frames.{Leaf, Inner, above-inside, above-used, above-room, falling_below, row-bound, row-frame, found, leaf_read, inner_read}
-
--- what stands before the first of the rows that a row names, by the row's kind
-module _ (output : List ℕ) (at : ℕ) (r : Row) where
-  -- it is stored, and which row is the first
-  abbrev pub Begun : List ℕ → ℕ → ℕ → Type 0
-  Begun output' at' n = (output' ≡ sets output at (open_bytes r)) × ((at' ≡ at + length (open_bytes r)) × (n ≡ first_named r))
-
-  pub brace_fits : r.kind ≡ field_kind → at + length (open_bytes r) ≤ length output → at < length output
-  unfolding open_bytes
-  brace_fits k h = let l = rw k at h in omega arith
-
-  pub field_begun : r.kind ≡ field_kind → {output' : List ℕ} {at' : ℕ} → (output' ≡ set output at (code "{")) × (at' ≡ at + 1) → Begun output' at' r.first
-  unfolding open_bytes first_named
-  field_begun k s = (rw k s.0, (rw k s.1, rw k))
-
-  pub cell-begun : r.kind ≡ cons_kind → Begun output at r.second
-  unfolding open_bytes first_named
-  cell-begun k = (rw k, (rw k (omega arith), rw k))
-
-  pub tag-begun : (r.kind ≡ field_kind → ⊥) → (r.kind ≡ cons_kind → ⊥) → Begun output at r.third
-  unfolding open_bytes first_named
-  tag-begun n m =
-      let no_field = ne_eqb r.kind field_kind n in
-      (rw no_field, (rw no_field (omega arith), rw (no_field, ne_eqb r.kind cons_kind m)))
 
 -- the stack, the output, the row and where the text goes on, at first
 module _ (t : SoundRows) (stack₀ output₀ : List ℕ) (n₀ frames₀ end₀ : ℕ) where

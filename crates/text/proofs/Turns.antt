@@ -1,7 +1,7 @@
 -- A turn of the frame at the top of the stack, by the kind of its row.
 use Prim.Native.Nat.{ℕ, ◌+◌, ◌≤◌, ◌<◌}
 use Prim.Native.Char.{code}
-use mathlib.Core.Path.{◌≡◌, refl, ap, sym, ◌∙◌}
+use mathlib.Core.Path.{◌≡◌, refl, sym, ◌∙◌}
 use mathlib.Core.List.{List, [], ◌∷◌, ◌++◌}
 use native.Mathlib.Omega.{arith}
 use lib.ListN.{length, get_or}
@@ -102,14 +102,15 @@ module _ {t : SoundRows} {stack output : List ℕ} {top at : ℕ} (w : Turn t st
           → Turned t top output at text₀ (record { next = None; depth = top; at = at' }) stack output'
       tag-turned o a = turned-done t top stack (falling_below t i below w.falling.1) (part_put output at text₀ bytes _ tag-text (o, a))
 
-    -- else it is a list cell's
-    pub cell : (r.kind ≡ field_kind → ⊥) → (r.kind ≡ tag_kind → ⊥) → ((row_in t.rows.now i).kind ≡ cons_kind) × ((row_in t.rows.now i).first ≡ r.first)
-    cell n m = (by w.falling.0, ap (λ (x : Row). x.first) (sym read))
-      where
-        kind_is : {k : ℕ} → (row_used t i).kind ≡ k → r.kind ≡ k
-        kind_is q = ap (λ (x : Row). x.kind) is ∙ q
+    -- a list cell's
+    pub cell : r.kind ≡ cons_kind → ((row_in t.rows.now i).kind ≡ cons_kind) × ((row_in t.rows.now i).first ≡ r.first)
+    cell k = rw (sym read) (k, refl)
 
-        by : Frame t e → (row_in t.rows.now i).kind ≡ cons_kind
-        by (of_cell q) = ap (λ (x : Row). x.kind) (sym read) ∙ kind_is q
-        by (of_field q) = absurd (n (kind_is q))
-        by (of_tag q) = absurd (m (kind_is q))
+    -- there is no other
+    pub no_other : (r.kind ≡ field_kind → ⊥) → (r.kind ≡ cons_kind → ⊥) → (r.kind ≡ tag_kind → ⊥) → ⊥
+    no_other f c g = by w.falling.0
+      where
+        by : Frame t e → ⊥
+        by (of_cell q) = c (rw is q)
+        by (of_field q) = f (rw is q)
+        by (of_tag q) = g (rw is q)

@@ -9,23 +9,25 @@ ghost use Rattle.text.specs.Stack.{on_stack, room_on};
 
 use crate::rows::SoundRows;
 use crate::stack::Stack;
-use format::{Row, kind};
+use format::Row;
+use format::kind::Kind;
 use measure::length;
 use table::RowWords;
 
 // Puts the rows that a row names on the stack.
+#[tactic(auto, unfolding(measure::specs::Lengths::named))]
 fn push_named(stack: &mut Stack, words: RowWords)
     requires { length (on_stack stack.old) + length (named (row_of words)) ≤ room_on stack.old }
     ensures same_words { stack.new.words.ghost_name ≡ stack.old.words.ghost_name }
     ensures same_room { room_on stack.new ≡ room_on stack.old }
     ensures pushed { on_stack stack.new ≡ named (row_of words) ++ on_stack stack.old }
 {
-    match words.kind {
-        kind::CONS | kind::FIELD => {
+    match Kind::try_from(words.kind) {
+        Ok(Kind::Cons | Kind::Field) => {
             stack.push(words.second);
             stack.push(words.first);
         }
-        kind::TAG => stack.push(words.third),
+        Ok(Kind::Tag) => stack.push(words.third),
         _ => {}
     }
 }

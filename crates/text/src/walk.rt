@@ -6,7 +6,8 @@ ghost use Rattle.table.specs.Words.{row_of, last_first, row_in};
 ghost use Rattle.text.specs.Walk.{open_bytes, first_named, frame_row, pending, coming, coming_fields, Above, Falling, coming_next, ReadyNext, Partly};
 
 use crate::rows::SoundRows;
-use format::{Offset, Row, bound, byte, kind};
+use format::kind::Kind;
+use format::{Offset, Row, bound, byte};
 use leaves::leaf;
 use table::RowWords;
 
@@ -29,21 +30,22 @@ struct Begun {
 }
 
 // Stores what stands before the first of the rows that a row names: `{` where that is a tuple's field.
+#[tactic(auto, unfolding(crate::specs::Walk::open_bytes, crate::specs::Walk::first_named))]
 fn begin(output: &mut [u8], at: usize, words: RowWords) -> Begun
     requires { at + length (open_bytes (row_of words)) ≤ length output.old }
     ensures output_after { output.new ≡ sets output.old at (open_bytes (row_of words)) }
     ensures at_value { (result.at ≡ at + length (open_bytes (row_of words))) × (result.row.0 ≡ first_named (row_of words)) }
 {
-    match words.kind {
-        kind::FIELD => Begun {
+    match Kind::try_from(words.kind) {
+        Ok(Kind::Field) => Begun {
             row: Row(words.first),
             at: leaf::put_byte(output, at, byte::LEFT_BRACE),
         },
-        kind::CONS => Begun {
+        Ok(Kind::Cons) => Begun {
             row: Row(words.second),
             at,
         },
-        // a tag, the only kind left that names a row
+        // a tag; a row of no other kind names one
         _ => Begun {
             row: Row(words.third),
             at,
@@ -110,7 +112,7 @@ fn put_fields(
     let mut n = rest;
     let mut words = table::read_row(table.rows, n);
     let mut end = at;
-    while words.kind == kind::FIELD {
+    while words.kind == Kind::Field as u32 {
         let first = Row(words.first);
         let field = table::read_row(table.rows, first);
         if !leaf::is_leaf(field.kind) {
@@ -188,18 +190,18 @@ fn put_frame(table: SoundRows, stack: &mut [u32], top: usize, output: &mut [u8],
 {
     let frame = stack[top];
     let words = table::read_row(table.rows, Row(frame % ITEM_BEGUN));
-    let k = words.kind;
     let start = Offset(words.first as usize);
     let n = words.second as usize;
-    match k {
-        kind::FIELD => put_fields(table, stack, top, Row(words.second), output, at),
-        kind::TAG => Place {
+    match Kind::try_from(words.kind) {
+        Ok(Kind::Field) => put_fields(table, stack, top, Row(words.second), output, at),
+        Ok(Kind::Tag) => Place {
             next: None,
             depth: top,
             at: leaf::put_quoted(table.message, output, at, byte::TAG_QUOTE, start, n),
         },
-        // a list cell, the only kind left in a frame
-        _ => put_item(table, stack, top, Row(words.first), output, at),
+        Ok(Kind::Cons) => put_item(table, stack, top, Row(words.first), output, at),
+        // a row of no other kind has a frame
+        _ => unreachable!(),
     }
 }
 
