@@ -3,12 +3,12 @@ use Prim.Native.Nat.{ℕ, ◌+◌, ◌≤◌, ◌<◌}
 use Prim.Native.Char.{code}
 use mathlib.Core.Path.{◌≡◌, refl, ap, sym, subst, ◌∙◌}
 use mathlib.Core.Bool.{Bool, true, false, ◌||◌, ◌&&◌, cond}
-use mathlib.Core.List.{List, [], ◌∷◌, ◌++◌}
+use mathlib.Core.List.{List, [], ◌∷◌}
 use native.Mathlib.Omega.{arith}
 use lib.ListN.{length, set, take, drop, length-set, length-append, drop_of_length-le}
 use lib.Seq.{get_or-set_same, get_or-set_other}
 use lib.Dec.{eqb, leb, T}
-use borrow.Author.Tests.{eqb-true, eqb-false, ne_eqb, lt-leb}
+use borrow.Author.Tests.{eqb-true, eqb-false, lt-leb}
 use Rattle.format.specs.Bound.{row_bound}
 use Rattle.format.specs.Meaning.{items_of}
 use Rattle.format.specs.Term as T
@@ -28,23 +28,6 @@ use Rattle.measure.specs.Lengths.{text_length, named, below, own_length, total, 
 use Rattle.leaves.proofs.Leaves.{length-after, length-between, length-quoted}
 
 module _ (r : Row) where
-  -- the rows that it names
-  pub names-cell : r.kind ≡ cons_kind → named r ≡ r.first ∷ r.second ∷ []
-  unfolding named
-  names-cell k = rw k
-
-  pub names_field : r.kind ≡ field_kind → named r ≡ r.first ∷ r.second ∷ []
-  unfolding named
-  names_field k = rw k
-
-  pub names-inner : r.kind ≡ tag_kind → named r ≡ r.third ∷ []
-  unfolding named
-  names-inner k = rw k
-
-  pub names-none : (r.kind ≡ cons_kind → ⊥) → (r.kind ≡ field_kind → ⊥) → (r.kind ≡ tag_kind → ⊥) → named r ≡ []
-  unfolding named
-  names-none a b c = rw (ne_eqb _ _ a, ne_eqb _ _ b, ne_eqb _ _ c)
-
   -- its length with theirs
   module _ (length_of : ℕ → ℕ) where
     pub cons-length : r.kind ≡ cons_kind → row_length length_of r ≡ length_of r.first + length_of r.second + 1
@@ -63,13 +46,6 @@ module _ (r : Row) where
     pub leaf-length : named r ≡ [] → row_length length_of r ≡ own_length r
     unfolding row_length total
     leaf-length e = rw e (omega arith)
-
--- with the rows that it names written out: how many there are, and what they stand above
-pub names-room : (r : Row) {names : List ℕ} (top : ℕ) {n : ℕ} → named r ≡ names → top + length (named r) ≤ n → top + length names ≤ n
-names-room r top e h = rw e at h
-
-pub names_onto : (r : Row) {names : List ℕ} (below : List ℕ) → named r ≡ names → names ++ below ≡ named r ++ below
-names_onto r below e = rw e
 
 -- a text in front of a rest
 pub text-after : (t : Term) (rest : List ℕ) → length (text_on t rest) ≡ text_length t + length rest
