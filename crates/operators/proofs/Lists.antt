@@ -5,8 +5,8 @@ use mathlib.Core.Bool.{Bool, true, false}
 use mathlib.Core.List.{List}
 use native.Mathlib.Omega.{arith}
 use lib.ListN.{get_or}
-use lib.Dec.{leb, eqb}
-use borrow.Author.Tests.{leb-true, leb-false, ne_eqb}
+use lib.Dec.{leb}
+use borrow.Author.Tests.{leb-true, leb-false}
 use Rattle.format.specs.Lex.{hash_item, ampersand_item}
 use Rattle.format.specs.Machine as M
 use Rattle.format.specs.Machine.{base, step}
@@ -17,11 +17,6 @@ use Rattle.machine.specs.declared.state.State.{State}
 use Rattle.machine.specs.Held.{Ready, stops, machine_of, limited, taken, with_row, made}
 use Rattle.machine.proofs.Limits.{refused-step}
 use Rattle.machine.proofs.Pops.{pop-few, pop-top, held-row}
-
--- a row that is not the empty list is a list if it is a cell
-pub is-cons : (k : ℕ) → ¬ (k ≡ nil_kind) → eqb k cons_kind ≡ is_list_kind k
-unfolding is_list_kind
-is-cons k h = rw (ne_eqb k nil_kind h) refl
 
 -- `#`
 pub nil-made : (t : Tables) (s : State) (r : List ℕ) → made t s s.depth.0 0 (row nil_kind 0 0 0) ≡ taken t s r hash_item
