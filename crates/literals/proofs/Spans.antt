@@ -8,15 +8,20 @@ use native.Mathlib.Numerals.{add-one}
 use native.Mathlib.Omega.{arith}
 use lib.ListN.{length, get_or, take, drop, length-drop}
 use lib.Seq.{length-take-le}
+use denote.Enum.Declared.{tag_of}
 use Rattle.std.specs.Prelude.{Result, Ok, Err}
 use Rattle.std.specs.declared.ops.ControlFlow.TheVariants.{Continue}
+use Rattle.format.specs.Kinds.{kind_number}
 use Rattle.format.specs.Lex as L
 use Rattle.format.specs.Lex.{Item, Scan, scan, quoted, quoted_item, atom_item, string_item, tag_item, comment_item}
 use Rattle.format.specs.Machine as M
 use Rattle.format.specs.Machine.{base, step}
 use Rattle.format.specs.Rows.{row, row_values, make_rows, add, atom_kind, string_kind, tag_kind, span_row, tag_row}
 use Rattle.format.specs.Answer.{Tables, tables}
+use Rattle.format.specs.contracts.kind.Kind.{the_type}
 use Rattle.format.specs.declared.Offset.{Offset}
+use Rattle.format.specs.declared.kind.Kind.{Kind}
+use Rattle.format.specs.declared.kind.Kind.TheVariants.{Integer, Atom, String, Binary, Nil, Cons, End, Field, Tag}
 use Rattle.format.specs.declared.refusal.Refused.{Refused}
 use Rattle.format.proofs.Items.{ItemOk, quoted-ok}
 use Rattle.table.specs.Words.{last_first}
@@ -29,6 +34,18 @@ use Rattle.literals.specs.Readers.{unclosed_as, closed_as}
 use Rattle.machine.proofs.Limits.{refused-step}
 use Rattle.machine.proofs.Pops.{pop-few, pop-top}
 use Rattle.machine.proofs.Passes.{passes}
+
+-- a kind as a number is its own
+pub as_number : (kind : Kind) → tag_of the_type kind + 1 ≡ kind_number kind
+as_number Integer = refl
+as_number Atom = refl
+as_number String = refl
+as_number Binary = refl
+as_number Nil = refl
+as_number Cons = refl
+as_number End = refl
+as_number Field = refl
+as_number Tag = refl
 
 -- atoms and strings push one row of their kind
 pub atoms : Spans atom_kind atom_item

@@ -10,8 +10,9 @@ ghost use Rattle.format.specs.Answer.{tables};
 ghost use Rattle.machine.specs.Held.{Ready, machine_of, turn, limited, taken};
 ghost use Rattle.literals.specs.Readers.{count_as};
 
+use format::kind::Kind;
 use format::refusal::Refusal;
-use format::{Depth, Offset, Row, byte, kind};
+use format::{Depth, Offset, Row, byte};
 use machine::state::{Answer, State, refused_at};
 use machine::{state, value};
 use table::RowWords;
@@ -22,7 +23,7 @@ fn count_of(rows: &[u32], v: Row) -> Result<u64, Refusal>
     ensures { result ≡ count_as (row_integer (row_in rows.now v.0)) }
 {
     let words = table::read_row(rows, v);
-    if words.kind != kind::INTEGER {
+    if words.kind != Kind::Integer as u32 {
         return Err(Refusal::WrongKind);
     }
     if table::SIGN_BIT <= words.first {
@@ -53,7 +54,7 @@ fn binary_bytes(message: &[u8], rows: &mut [u32], stack: &mut [u32], s: State, c
         Depth(depth - 1),
         Offset(end + 1),
         RowWords {
-            kind: kind::BINARY,
+            kind: Kind::Binary as u32,
             first: start as u32,
             second: count as u32,
             third: 0,

@@ -5,8 +5,9 @@ ghost use Rattle.format.specs.Answer.{tables};
 ghost use Rattle.machine.specs.Held.{Ready, turn, taken};
 ghost use Rattle.literals.specs.Readers.{no_integer_as, begun_item, begun_by};
 
+use format::kind::Kind;
 use format::refusal::{Refusal, Refused};
-use format::{Offset, byte, kind};
+use format::{Offset, byte};
 use lexer::integer;
 use lexer::integer::{Begun, Integer, NoInteger};
 use machine::state::{Answer, State};
@@ -56,7 +57,7 @@ pub fn integer_item(message: &[u8], rows: &mut [u32], stack: &mut [u32], s: Stat
         depth,
         end,
         RowWords {
-            kind: kind::INTEGER,
+            kind: Kind::Integer as u32,
             first: (bits / table::WORD_VALUES) as u32,
             second: (bits % table::WORD_VALUES) as u32,
             third: 0,

@@ -2,13 +2,15 @@
 ghost use Rattle.std.specs.Prelude.{◌≡◌, List, ℕ, ◌+◌, ◌≤◌, ◌<◌, false, length, drop};
 ghost use Rattle.lexer.specs.Quoted.{quoted_from};
 ghost use Rattle.format.specs.Bound.{message_bound};
+ghost use Rattle.format.specs.Kinds.{kind_number};
 ghost use Rattle.format.specs.Lex.{Item, quoted};
 ghost use Rattle.format.specs.Answer.{Tables, tables};
 ghost use Rattle.machine.specs.Held.{Ready, Spans, turn, taken};
 ghost use Rattle.literals.specs.Readers.{unclosed_as, closed_as, tag_text, comment_text};
 
+use format::kind::Kind;
 use format::refusal::{Refusal, Refused};
-use format::{Depth, Offset, byte, kind};
+use format::{Depth, Offset, byte};
 use lexer::quoted;
 use lexer::quoted::{Quoted, Unclosed};
 use machine::state::{Answer, State};
@@ -43,11 +45,11 @@ pub fn quoted_item(
     rows: &mut [u32],
     stack: &mut [u32],
     s: State,
-    kind: u32,
+    kind: Kind,
     quote: u8,
 ) -> Answer
     requires { (s.at.0 < length message.now) × (length message.now ≤ message_bound) }
-    ensures { (marks registers : List ℕ) (item : ℕ → Item) → Ready (tables rows.old stack.old marks registers) s → Spans kind item → turn result (tables rows.new stack.new marks registers) ≡ taken (tables rows.old stack.old marks registers) s (drop (s.at.0 + 1) message.now) (quoted quote item (drop (s.at.0 + 1) message.now)) }
+    ensures { (marks registers : List ℕ) (item : ℕ → Item) → Ready (tables rows.old stack.old marks registers) s → Spans (kind_number kind) item → turn result (tables rows.new stack.new marks registers) ≡ taken (tables rows.old stack.old marks registers) s (drop (s.at.0 + 1) message.now) (quoted quote item (drop (s.at.0 + 1) message.now)) }
 {
     let start = s.at.0 + 1;
     let depth = s.depth;
@@ -59,7 +61,7 @@ pub fn quoted_item(
         depth,
         end,
         RowWords {
-            kind,
+            kind: kind as u32,
             first: start as u32,
             second: count as u32,
             third: 0,
@@ -113,7 +115,7 @@ pub fn tag_item(
         Depth(depth.0 - 1),
         end,
         RowWords {
-            kind: kind::TAG,
+            kind: Kind::Tag as u32,
             first: start as u32,
             second: count as u32,
             third: inner.0,

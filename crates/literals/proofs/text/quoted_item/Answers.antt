@@ -17,4 +17,4 @@ pub returns : goal.returns
 returns c mk rg item h f =
     let closed = laws.was-closed _ _ _ (sym c.in_ok-count.ensures) in
     c.push_value.ensures mk rg _ h (omega arith) (laws.closed _ _ _ _ _ closed).1
-    ∙ laws.span-made _ _ mk rg _ _ _ _ _ _ item f closed
+    ∙ rw (laws.as_number c.args.kind) (laws.span-made _ _ mk rg _ _ _ _ _ _ item f closed)
