@@ -9,9 +9,10 @@ ghost use Rattle.format.specs.Classes.{class_as};
 ghost use Rattle.format.specs.Lex.{lex};
 ghost use Rattle.machine.specs.Held.{Ready, turn, taken};
 
+use format::byte;
 use format::class::Class;
+use format::kind::Kind;
 use format::refusal::Refusal;
-use format::{byte, kind};
 use literals::{binary, number, text};
 use machine::state::{Answer, State, refused_at};
 use operators::{end, list, register, tuple, white};
@@ -40,11 +41,11 @@ pub fn step(
             rows,
             stack,
             s,
-            kind::ATOM,
+            Kind::Atom,
             byte::ATOM_QUOTE,
         ),
         Class::StringQuote => {
-            text::quoted_item(message, rows, stack, s, kind::STRING, byte::STRING_QUOTE)
+            text::quoted_item(message, rows, stack, s, Kind::String, byte::STRING_QUOTE)
         }
         Class::TagQuote => text::tag_item(message, rows, stack, marks, s),
         Class::CommentQuote => text::comment_item(message, s),
