@@ -11,8 +11,11 @@ ghost use Rattle.words.specs.Answers.{word_as};
 ghost use Rattle.words.specs.Known.{format_of, word_of_rows};
 
 use crate::layout::Layout;
+use format::kind::Kind;
 use format::refusal::Refusal;
-use format::{Row, bound, kind};
+use format::kind::Kind;
+use format::refusal::Refusal;
+use format::{Row, bound};
 use table::{RowWords, Table};
 
 mod formats;
@@ -60,10 +63,10 @@ fn word_of_rows(message: &[u8], tag: RowWords, block: RowWords, k: u64) -> Resul
     requires { tag.kind ≡ tag_kind → (tag.first + tag.second ≤ length message.now) × (block.kind ≡ binary_kind → block.first + block.second ≤ length message.now) }
     ensures { word_as result ≡ word_of_rows message.now (row_of tag) (row_of block) k }
 {
-    if tag.kind != kind::TAG {
+    if tag.kind != Kind::Tag as u32 {
         return Err(Refusal::NoBlock);
     }
-    if block.kind != kind::BINARY {
+    if block.kind != Kind::Binary as u32 {
         return Err(Refusal::NoBlock);
     }
     word_named(span(message, tag), span(message, block), k)
