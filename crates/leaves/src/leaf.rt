@@ -139,6 +139,7 @@ fn put_bytes(
 pub fn is_leaf(k: u32) -> bool
     ensures { result ≡ is_leaf_kind k }
 {
+    // by numbers, as `is_leaf_kind` has it: 0, which is no kind's number, is a leaf's too
     k <= Kind::Nil as u32 || k == Kind::End as u32
 }
 
