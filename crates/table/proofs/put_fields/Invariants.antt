@@ -1,16 +1,19 @@
 -- `table::put_fields` meets its contract: what is yet to be stored, stored into the table as it is, is what was to be stored
 -- into the table at first.
-use Rattle.std.proofs.Common.{◌≡◌, ◌+◌, ◌-◌, ◌≤◌, length}
+use Prim.Native.Nat.{◌+◌, ◌≤◌}
+use mathlib.Core.Path.{◌≡◌}
+use lib.ListN.{length}
 use Rattle.table.proofs.Tuple.{with_fields}
 use Rattle.table.proofs.put_fields.Given as goal
 
-abbrev pub invariant-loop-field : goal.invariant-loop-field
-invariant-loop-field l = record {
-  can_next : (goal.iterator-loop-field).can_next l.field-iterator;
-  is_finite : (goal.iterator-loop-field).is_finite l.field-iterator;
-  within : l.fn.base.0 + length l.yielded ≤ l.fn.depth.0;
-  count : l.rest ≡ l.fn.end.0 + length l.yielded;
+abbrev pub invariant-loop-high : goal.invariant-loop-high
+invariant-loop-high l = record {
+  above : l.low ≤ l.high;
+  within : l.high ≤ l.initial.high;
+  count : l.rest + l.high ≡ l.initial.rest + l.initial.high;
   same : length l.rows ≡ length l.initial.rows;
-  left : with_fields l.rows l.fn.stack l.fn.base.0 (l.fn.depth.0 - length l.yielded) l.rest
-      ≡ with_fields l.initial.rows l.fn.stack l.fn.base.0 l.fn.depth.0 l.fn.end.0;
+  left : with_fields l.rows l.stack l.low l.high l.rest ≡ with_fields l.initial.rows l.stack l.low l.initial.high l.initial.rest;
 }
+
+abbrev pub decreases-loop-high : goal.decreases-loop-high
+decreases-loop-high l = l.high
