@@ -6,14 +6,10 @@ use lib.ListN.{length}
 use Rattle.table.proofs.Tuple.{with_fields}
 use Rattle.table.proofs.put_fields.Given as goal
 
-abbrev pub invariant-loop-high : goal.invariant-loop-high
-invariant-loop-high l = record {
-  above : l.low ≤ l.high;
-  within : l.high ≤ l.initial.high;
-  count : l.rest + l.high ≡ l.initial.rest + l.initial.high;
+abbrev pub invariant-loop-i : goal.invariant-loop-i
+invariant-loop-i l = record {
+  above : l.fn.base.0 ≤ l.i;
+  count : l.rest + l.i ≡ l.initial.rest + l.initial.i;
   same : length l.rows ≡ length l.initial.rows;
-  left : with_fields l.rows l.stack l.low l.high l.rest ≡ with_fields l.initial.rows l.stack l.low l.initial.high l.initial.rest;
+  left : with_fields l.rows l.stack l.fn.base.0 l.i l.rest ≡ with_fields l.initial.rows l.stack l.fn.base.0 l.initial.i l.initial.rest;
 }
-
-abbrev pub decreases-loop-high : goal.decreases-loop-high
-decreases-loop-high l = l.high
