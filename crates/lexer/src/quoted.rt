@@ -33,6 +33,7 @@ pub fn read_quoted(
     let start = from.0;
     let mut i = start;
     let mut open = escaped;
+    // a turn passes a run, or the byte after a backslash, so that no `for` gives its places
     while i < message.len() {
         if open {
             let b = message[i];

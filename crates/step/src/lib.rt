@@ -33,6 +33,7 @@ pub fn step(
     requires class_known { class_as (get_or classes.now b Class.White) ≡ class_of b }
     ensures { turn result (tables rows.new stack.new marks.new registers.new) ≡ taken (tables rows.old stack.old marks.old registers.old) s (drop (s.at.0 + 1) message.now) (lex b (drop (s.at.0 + 1) message.now)) }
 {
+    // a match, since the classes are closed and each arm lends other tables: closures in a table would be no plainer
     match classes[b as usize] {
         Class::White => white::white_item(s),
         Class::Digit | Class::Minus => number::integer_item(message, rows, stack, s, b),

@@ -23,6 +23,7 @@ pub(crate) fn read_message<R: Read>(input: &mut R, buffer: &mut [u8]) -> Result<
     ensures { InBuffer result (length buffer.new) }
 {
     let mut n = 0;
+    // a read brings as many bytes as it likes, so that no `for` gives the places
     while n < buffer.len() {
         match input.read(&mut buffer[n..])? {
             0 => return Ok(n),
