@@ -19,7 +19,7 @@ mod search;
 mod side;
 
 // The number of a row over both sides: the first side's rows come first, the second side's after them.
-#[derive(Clone, Copy)]
+#[derive(Clone, Copy, Debug, PartialEq, Eq)]
 pub(crate) struct JointRow(pub u32);
 
 // How many rows are used on both sides together, in 64 bits, where no sum of two counts wraps.

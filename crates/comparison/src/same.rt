@@ -13,21 +13,12 @@ use format::Row;
 use format::kind::Kind;
 use table::RowWords;
 
-// The bytes of a row's span.
-fn span<'a>(x: Placed<'a>) -> &'a [u8]
-    requires { T (has_span x.row.kind) }
-    ensures { result.now ≡ span_of x.entry.message.now x.entry.row.first x.entry.row.second }
-{
-    let start = x.row.first as usize;
-    &x.message[start..start + x.row.second as usize]
-}
-
 // Whether the spans of two rows are the same bytes.
 fn same_span(x: Placed, y: Placed) -> bool
     requires { T (has_span x.row.kind) × T (has_span y.row.kind) }
     ensures { result ≡ same_span x.entry.message.now (row_of x.entry.row) y.entry.message.now (row_of y.entry.row) }
 {
-    span(x) == span(y)
+    table::span(x.message, x.row) == table::span(y.message, y.row)
 }
 
 // Whether two rows of kind 1 hold the same integer.

@@ -15,7 +15,7 @@ use format::{Offset, byte};
 use table::{RowWords, SIGN_BIT, WORD_VALUES};
 
 // The sign and the magnitude of an integer.
-#[derive(Clone, Copy)]
+#[derive(Clone, Copy, Debug, PartialEq, Eq)]
 pub struct Signed {
     pub negative: bool,
     pub magnitude: u64,

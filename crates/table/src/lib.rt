@@ -4,14 +4,14 @@
 ghost use Rattle.std.specs.Prelude.{◌≡◌, [], ◌∷◌, ◌+◌, ◌*◌, ◌-◌, ◌≤◌, ◌<◌, length};
 ghost use Rattle.std.proofs.lemmas.List.Edits.{sets};
 ghost use Rattle.format.specs.Answer.{zeroed};
-ghost use Rattle.format.specs.Rows.{row_words, words_of, row_room};
+ghost use Rattle.format.specs.Rows.{row_words, words_of, row_room, span_of};
 ghost use Rattle.table.specs.Words.{row_of, row_in, stored_rows, between, field_rows, tuple_rows, cleared_from};
 
 use format::kind::Kind;
 use format::{Depth, ROW_WORDS, Row, bound};
 
 // The words of a row: its kind and the other three.
-#[derive(Clone, Copy, Default)]
+#[derive(Clone, Copy, Debug, Default, PartialEq, Eq)]
 pub struct RowWords {
     pub kind: u32,
     pub first: u32,
@@ -85,6 +85,15 @@ pub fn load_row(rows: &[u32], n: Row) -> RowWords
         return RowWords::default();
     }
     read_row(rows, n)
+}
+
+// The bytes of a row's span.
+pub fn span(message: &[u8], row: RowWords) -> &[u8]
+    requires { row.first + row.second ≤ length message.now }
+    ensures { result.now ≡ span_of message.now row.first row.second }
+{
+    let start = row.first as usize;
+    &message[start..start + row.second as usize]
 }
 
 // Stores the fields of a tuple from the last to the first, after its end, row `end`.

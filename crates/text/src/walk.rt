@@ -15,7 +15,7 @@ use table::RowWords;
 const ITEM_BEGUN: u32 = bound::ROWS as u32;
 
 // Where the text goes on, how many frames lie on the stack, and the row that comes next above them, if one does.
-#[derive(Clone, Copy)]
+#[derive(Clone, Copy, Debug, PartialEq, Eq)]
 pub(crate) struct Place {
     pub next: Option<Row>,
     pub depth: usize,
@@ -23,7 +23,7 @@ pub(crate) struct Place {
 }
 
 // The row whose text comes first in a row's own, and where the text goes on.
-#[derive(Clone, Copy)]
+#[derive(Clone, Copy, Debug, PartialEq, Eq)]
 struct Begun {
     row: Row,
     at: usize,

@@ -18,7 +18,7 @@ use table::Table;
 
 // 0, bytes consumed, root row and rows used; or a refusal's number, its place, 0 and 0.
 #[repr(C)]
-#[derive(Clone, Copy)]
+#[derive(Clone, Copy, Debug, PartialEq, Eq)]
 pub struct UbfaDecoded {
     pub number: u32,
     pub place: u32,
@@ -28,7 +28,7 @@ pub struct UbfaDecoded {
 
 // 0 and the bytes written; or a refusal's number and 0.
 #[repr(C)]
-#[derive(Clone, Copy)]
+#[derive(Clone, Copy, Debug, PartialEq, Eq)]
 pub struct UbfaWritten {
     pub number: u32,
     pub bytes: u64,
@@ -36,7 +36,7 @@ pub struct UbfaWritten {
 
 // 0 and 1 for equal, 0 and 0 for different; or a refusal's number and 0.
 #[repr(C)]
-#[derive(Clone, Copy)]
+#[derive(Clone, Copy, Debug, PartialEq, Eq)]
 pub struct UbfaCompared {
     pub number: u32,
     pub equal: u32,
@@ -44,7 +44,7 @@ pub struct UbfaCompared {
 
 // 0 and the word; or a refusal's number and 0.
 #[repr(C)]
-#[derive(Clone, Copy)]
+#[derive(Clone, Copy, Debug, PartialEq, Eq)]
 pub struct UbfaWord {
     pub number: u32,
     pub value: i64,

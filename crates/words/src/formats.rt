@@ -7,7 +7,7 @@ use crate::join::{BYTE_BITS, join};
 use crate::layout::{Layout, Order};
 
 // A known name, and what it says of its words. The name is a number: a byte 1 and the name's bytes, joined as those of a big-endian word.
-#[derive(Clone, Copy)]
+#[derive(Clone, Copy, Debug, PartialEq, Eq)]
 struct Format {
     name: u64,
     layout: Layout,

@@ -20,15 +20,6 @@ mod formats;
 mod join;
 mod layout;
 
-// The bytes of a row's span.
-fn span(message: &[u8], row: RowWords) -> &[u8]
-    requires { row.first + row.second ≤ length message.now }
-    ensures { result.now ≡ span_of message.now row.first row.second }
-{
-    let start = row.first as usize;
-    &message[start..start + row.second as usize]
-}
-
 // Word k of a block.
 fn word_in(block: &[u8], layout: Layout, k: u64) -> Result<i64, Refusal>
     ensures { word_as result ≡ word_in (format_of layout) block.now k }
@@ -67,7 +58,7 @@ fn word_of_rows(message: &[u8], tag: RowWords, block: RowWords, k: u64) -> Resul
     if block.kind != Kind::Binary as u32 {
         return Err(Refusal::NoBlock);
     }
-    word_named(span(message, tag), span(message, block), k)
+    word_named(table::span(message, tag), table::span(message, block), k)
 }
 
 // Reads word k, from 0, of the sensor block at a table's root. Nothing is lent for writing.
