@@ -34,7 +34,10 @@ pub fn step(
     ensures { turn result (tables rows.new stack.new marks.new registers.new) ≡ taken (tables rows.old stack.old marks.old registers.old) s (drop (s.at.0 + 1) message.now) (lex b (drop (s.at.0 + 1) message.now)) }
 {
     // a match, since the classes are closed and each arm lends other tables: closures in a table would be no plainer
+    // `~` and tags first: with all arms in the order of the classes, 2.5 % more instructions on tuples, 1 % on binaries with tags and negative numbers
     match classes[b as usize] {
+        Class::Tilde => binary::binary_item(message, rows, stack, marks, s),
+        Class::TagQuote => text::tag_item(message, rows, stack, marks, s),
         Class::White => white::white_item(s),
         Class::Digit | Class::Minus => number::integer_item(message, rows, stack, s, b),
         Class::AtomQuote => text::quoted_item(
@@ -48,11 +51,9 @@ pub fn step(
         Class::StringQuote => {
             text::quoted_item(message, rows, stack, s, Kind::String, byte::STRING_QUOTE)
         }
-        Class::TagQuote => text::tag_item(message, rows, stack, marks, s),
         Class::CommentQuote => text::comment_item(message, s),
         Class::LeftBrace => tuple::open_item(marks, s),
         Class::RightBrace => tuple::close_item(rows, stack, marks, s),
-        Class::Tilde => binary::binary_item(message, rows, stack, marks, s),
         Class::Hash => list::nil_item(rows, stack, s),
         Class::Ampersand => list::cons_item(rows, stack, marks, s),
         Class::Dollar => end::end_item(stack, s),
