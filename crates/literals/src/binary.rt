@@ -23,6 +23,7 @@ fn count_of(rows: &[u32], v: Row) -> Result<u64, Refusal>
     ensures { result ≡ count_as (row_integer (row_in rows.now v.0)) }
 {
     let words = table::read_row(rows, v);
+    // one kind is asked for, here and elsewhere by its number: a match with two arms is no plainer
     if words.kind != Kind::Integer as u32 {
         return Err(Refusal::WrongKind);
     }

@@ -112,6 +112,7 @@ fn put_fields(
     let mut n = rest;
     let mut words = table::read_row(table.rows, n);
     let mut end = at;
+    // by number, since one kind is asked for: a `while let` on a kind is no plainer
     while words.kind == Kind::Field as u32 {
         let first = Row(words.first);
         let field = table::read_row(table.rows, first);
