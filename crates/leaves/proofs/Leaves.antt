@@ -14,7 +14,7 @@ use Rattle.format.specs.Text.{natural_on, decimal_on, between, text_on}
 use Rattle.format.specs.Rows.{span_of}
 use Rattle.format.proofs.Lists.{length-span}
 use Rattle.format.proofs.Sizes.{natural_onto}
-use Rattle.leaves.specs.Leaves.{integer_bytes, quote_of, count_bytes, span_bytes}
+use Rattle.leaves.specs.Leaves.{bytes_of, integer_bytes, quote_of, count_bytes, span_bytes}
 use Rattle.leaves.proofs.Stores.{Stored, stored-both}
 
 -- a count in front of a rest, and bytes between two quotes
@@ -73,24 +73,28 @@ module _ (message : List ℕ) (start n : ℕ) where
   pub length-quoted : (quote : ℕ) → start + n ≤ length message → length (between quote span []) ≡ n + 2
   length-quoted quote h = omega (arith, length-between quote span, length-span message start n h)
 
-  module _ (out : List ℕ) (at : ℕ) {left : List ℕ} {next : ℕ} where
-    pub stored-quoted : (quote : ℕ) → start + n ≤ length message → {first second : List ℕ} {inner end : ℕ}
-        → Stored out at (quote ∷ []) first inner → (second ≡ sets first inner span) × (end ≡ inner + n) → Stored second end (quote ∷ []) left next
-        → Stored out at (between quote span []) left next
-    stored-quoted quote h {first} {inner = inner} a b c =
-        let rest = stored-both first inner span (quote ∷ []) (b.0, omega (arith, b.1, length-span message start n h)) c in
-        stored-both out at (quote ∷ []) (span ++ (quote ∷ [])) a rest
+-- bytes stored between two quotes
+pub stored-quoted : (bytes out : List ℕ) (at quote : ℕ) {left : List ℕ} {next : ℕ} {first second : List ℕ} {inner end : ℕ}
+    → Stored out at (quote ∷ []) first inner → (second ≡ sets first inner bytes) × (end ≡ inner + length bytes) → Stored second end (quote ∷ []) left next
+    → Stored out at (between quote bytes []) left next
+stored-quoted bytes out at quote {first = first} {inner = inner} a b c =
+    stored-both out at (quote ∷ []) (bytes ++ (quote ∷ [])) a (stored-both first inner bytes (quote ∷ []) b c)
 
--- an atom, a string or a binary: the count where it is a binary, and the span between its quotes
-module _ (message : List ℕ) (k start n : ℕ) {quote : ℕ} (e : quote ≡ quote_of k) where
+-- an atom, a string or a binary: the count where it is a binary, and the bytes between its quotes
+module _ (k : ℕ) (bytes : List ℕ) {quote : ℕ} (e : quote ≡ quote_of k) where
   abbrev quoted : List ℕ
-  quoted = between quote (span_of message start n) []
+  quoted = between quote bytes []
 
-  pub length-bytes : length (span_bytes message k start n) ≡ length (count_bytes k n) + length quoted
-  unfolding span_bytes
-  length-bytes = rw e (length-append (count_bytes k n) (between (quote_of k) (span_of message start n) []))
+  pub length-bytes : length (bytes_of k bytes) ≡ length (count_bytes k (length bytes)) + length quoted
+  unfolding bytes_of
+  length-bytes = rw e (length-append (count_bytes k (length bytes)) (between (quote_of k) bytes []))
 
-  pub stored_bytes : (out : List ℕ) (at : ℕ) {left : List ℕ} {next : ℕ} {first : List ℕ} {inner : ℕ} → Stored out at (count_bytes k n) first inner
-      → Stored first inner quoted left next → Stored out at (span_bytes message k start n) left next
-  unfolding span_bytes
-  stored_bytes out at a b = stored-both out at (count_bytes k n) (between (quote_of k) (span_of message start n) []) a (rw e at b)
+  pub stored_bytes : (out : List ℕ) (at : ℕ) {left : List ℕ} {next : ℕ} {first : List ℕ} {inner : ℕ} → Stored out at (count_bytes k (length bytes)) first inner
+      → Stored first inner quoted left next → Stored out at (bytes_of k bytes) left next
+  unfolding bytes_of
+  stored_bytes out at a b = stored-both out at (count_bytes k (length bytes)) (between (quote_of k) bytes []) a (rw e at b)
+
+-- by a span of the message
+pub as_bytes : (message : List ℕ) (k start n : ℕ) → start + n ≤ length message → span_bytes message k start n ≡ bytes_of k (span_of message start n)
+unfolding span_bytes bytes_of
+as_bytes message k start n h = rw (length-span message start n h)

@@ -5,7 +5,7 @@ use mathlib.Core.List.{List, [], ◌∷◌}
 use native.Mathlib.Nat.{add-zero}
 use native.Mathlib.Omega.{arith}
 use lib.ListN.{length, take, drop, get_or, set, length-drop, take-append-drop}
-use lib.Seq.{sets, take_all, take-take, length-take-le, drop-cons, drop-drop, set-set, set_comm, length-sets, get_or-take, get_or-drop}
+use lib.Seq.{sets, take_all, length-take-le, drop-cons, drop-drop, set-set, set_comm, length-sets, get_or-take, get_or-drop}
 use Rattle.format.specs.Rows.{span_of}
 use Rattle.format.proofs.Lists.{length-span}
 use Rattle.leaves.proofs.Stores.{stores}
@@ -43,7 +43,7 @@ module _ (x : List ℕ) (at : ℕ) (first : List ℕ) where
 
   module _ {out : List ℕ} {i : ℕ} (c : Copying out i) where
     -- a block more
-    copies : (w : ℕ) {out' : List ℕ} → i + w ≤ length x → out' ≡ sets out (at + i) (take w (drop i x)) → Copying out' (i + w)
+    pub copies : (w : ℕ) {out' : List ℕ} → i + w ≤ length x → out' ≡ sets out (at + i) (take w (drop i x)) → Copying out' (i + w)
     copies w h e =
         let block : List ℕ = take w (drop i x) in
         let size : length block ≡ w = length-take-le w (drop i x) (rw (length-drop i x) (omega arith)) in
@@ -58,7 +58,7 @@ module _ (x : List ℕ) (at : ℕ) (first : List ℕ) where
     copies_one e f h = copies 1 (omega arith) (rw (e, f, drop-cons x i 0 h))
 
     -- the last block, from d on, is stored over bytes that stand already
-    ends-over : (d w : ℕ) {out' : List ℕ} → d ≤ i → length x ≡ d + w → out' ≡ sets out (at + d) (take w (drop d x)) → out' ≡ sets first at x
+    pub ends-over : (d w : ℕ) {out' : List ℕ} → d ≤ i → length x ≡ d + w → out' ≡ sets out (at + d) (take w (drop d x)) → out' ≡ sets first at x
     ends-over d w h n e =
         let k : ℕ = i - d in
         let on : d + k ≡ i = omega arith in
@@ -67,37 +67,16 @@ module _ (x : List ℕ) (at : ℕ) (first : List ℕ) where
         let stored = rw (to, drop-drop k d x, on, c.left, again first at d x) at (over out (at + d) k (drop d x)) in
         e ∙ rw (take_all w (drop d x) rest) (sym stored)
 
--- a part of the first n bytes
-part_of_front : (i w n : ℕ) (l : List ℕ) → i + w ≤ n → take w (drop i (take n l)) ≡ take w (drop i l)
-part_of_front zero w n l h = take-take w n l (omega arith)
-part_of_front (suc i) w zero l h = absurd (omega arith)
-part_of_front (suc i) w (suc n) [] h = refl
-part_of_front (suc i) w (suc n) (a ∷ l) h = part_of_front i w n l (omega arith)
-
 -- a span
 module _ (message : List ℕ) (start n : ℕ) where
   abbrev span : List ℕ
   span = span_of message start n
 
-  -- its parts, as they stand in the message
-  block_of : (i w : ℕ) → i + w ≤ n → span_of message (start + i) w ≡ take w (drop i span)
-  block_of i w h = rw (part_of_front i w n (drop start message) h, drop-drop i start message)
-
+  -- its bytes, as they stand in the message
   byte_of : (i : ℕ) → i < n → get_or message (start + i) 0 ≡ get_or span i 0
   byte_of i h = rw (get_or-take n (drop start message) i 0 h, get_or-drop start message i 0)
 
   -- it lies in the message, from which it is copied
-  module _ (inside : start + n ≤ length message) where
-    module _ (at : ℕ) (first : List ℕ) {out : List ℕ} {i : ℕ} (c : Copying span at first out i) where
-      pub copies_byte : {p : ℕ} → p ≡ at + i → i < n → Copying span at first (set out p (get_or message (start + i) 0)) (i + 1)
-      copies_byte e h = copies_one span at first c e (byte_of i h) (rw (length-span message start n inside) h)
-
-      pub copies_block : (w : ℕ) {block out' : List ℕ} → i + w ≤ n → block ≡ span_of message (start + i) w
-          → out' ≡ sets out (at + i) block → Copying span at first out' (i + w)
-      copies_block w h b e = copies span at first c w (rw (length-span message start n inside) h) (rw (b, block_of i w h) at e)
-
-      pub ends_block : (d w : ℕ) {block out' : List ℕ} → d ≤ i → d + w ≡ n → block ≡ span_of message (start + d) w
-          → out' ≡ sets out (at + d) block → out' ≡ sets first at span
-      ends_block d w h m b e =
-          let size = length-span message start n inside in
-          ends-over span at first c d w h (size ∙ sym m) (rw (b, block_of d w (omega arith)) at e)
+  module _ (inside : start + n ≤ length message) (at : ℕ) (first : List ℕ) {out : List ℕ} {i : ℕ} (c : Copying span at first out i) where
+    pub copies_byte : {p : ℕ} → p ≡ at + i → i < n → Copying span at first (set out p (get_or message (start + i) 0)) (i + 1)
+    copies_byte e h = copies_one span at first c e (byte_of i h) (rw (length-span message start n inside) h)

@@ -26,6 +26,10 @@ quote_of k = cond (eqb k atom_kind) (code "'") (cond (eqb k string_kind) (code "
 unfoldable pub count_bytes : ℕ → ℕ → List ℕ
 count_bytes k n = cond (eqb k binary_kind) (natural_on n []) []
 
+-- an atom, a string or a binary, by its bytes
+unfoldable pub bytes_of : ℕ → List ℕ → List ℕ
+bytes_of k bytes = count_bytes k (length bytes) ++ between (quote_of k) bytes []
+
 -- an atom, a string or a binary of n bytes from `start` on; its bytes are as spelled in the message
 unfoldable pub span_bytes : List ℕ → ℕ → ℕ → ℕ → List ℕ
 span_bytes message k start n = count_bytes k n ++ between (quote_of k) (span_of message start n) []

@@ -4,14 +4,13 @@ ghost use Rattle.std.proofs.lemmas.List.Edits.{sets};
 ghost use Rattle.format.specs.Bits.{from_bits};
 ghost use Rattle.format.specs.Term as T;
 ghost use Rattle.format.specs.Text.{between, text_on};
-ghost use Rattle.format.specs.Rows.{span_of};
 ghost use Rattle.format.specs.Kinds.{kind_number};
 ghost use Rattle.table.specs.Words.{row_of};
-ghost use Rattle.leaves.specs.Leaves.{integer_bytes, quote_of, count_bytes, span_bytes, empty_tuple, is_leaf_kind, leaf_bytes, Inside};
+ghost use Rattle.leaves.specs.Leaves.{integer_bytes, quote_of, count_bytes, bytes_of, empty_tuple, is_leaf_kind, leaf_bytes, Inside};
 
 use crate::{decimal, span};
+use format::byte;
 use format::kind::Kind;
-use format::{Offset, byte};
 use table::{RowWords, SIGN_BIT, WORD_VALUES};
 
 // The sign and the magnitude of an integer.
@@ -72,21 +71,13 @@ fn put_integer(output: &mut [u8], at: usize, negative: bool, n: u64) -> usize
 }
 
 // Stores a span between two of a quote from `at` on, and answers the place after it.
-pub fn put_quoted(
-    message: &[u8],
-    output: &mut [u8],
-    at: usize,
-    quote: u8,
-    start: Offset,
-    n: usize,
-) -> usize
-    requires span_inside { start.0 + n ≤ length message.now }
-    requires room { at + length (between quote (span_of message.now start.0 n) []) ≤ length output.old }
-    ensures output_after { output.new ≡ sets output.old at (between quote (span_of message.now start.0 n) []) }
-    ensures value { result ≡ at + length (between quote (span_of message.now start.0 n) []) }
+pub fn put_quoted(bytes: &[u8], output: &mut [u8], at: usize, quote: u8) -> usize
+    requires { at + length (between quote bytes.now []) ≤ length output.old }
+    ensures output_after { output.new ≡ sets output.old at (between quote bytes.now []) }
+    ensures value { result ≡ at + length (between quote bytes.now []) }
 {
     let inner = put_byte(output, at, quote);
-    let end = span::put_span(message, start, n, output, inner);
+    let end = span::put_span(bytes, output, inner);
     put_byte(output, end, quote)
 }
 
@@ -117,21 +108,13 @@ fn put_count(output: &mut [u8], at: usize, k: Kind, n: usize) -> usize
 }
 
 // Stores an atom, a string or a binary from `at` on, and answers the place after it: one copy of the code for all three.
-fn put_bytes(
-    message: &[u8],
-    output: &mut [u8],
-    at: usize,
-    k: Kind,
-    start: Offset,
-    n: usize,
-) -> usize
-    requires span_inside { start.0 + n ≤ length message.now }
-    requires room { at + length (span_bytes message.now (kind_number k) start.0 n) ≤ length output.old }
-    ensures output_after { output.new ≡ sets output.old at (span_bytes message.now (kind_number k) start.0 n) }
-    ensures value { result ≡ at + length (span_bytes message.now (kind_number k) start.0 n) }
+fn put_bytes(bytes: &[u8], output: &mut [u8], at: usize, k: Kind) -> usize
+    requires { at + length (bytes_of (kind_number k) bytes.now) ≤ length output.old }
+    ensures output_after { output.new ≡ sets output.old at (bytes_of (kind_number k) bytes.now) }
+    ensures value { result ≡ at + length (bytes_of (kind_number k) bytes.now) }
 {
-    let quote = put_count(output, at, k, n);
-    put_quoted(message, output, quote, quote_of(k), start, n)
+    let quote = put_count(output, at, k, bytes.len());
+    put_quoted(bytes, output, quote, quote_of(k))
 }
 
 // Whether a row of this kind is a leaf.
@@ -165,20 +148,18 @@ fn put_braces(output: &mut [u8], at: usize) -> usize
 
 // Stores a leaf's text from `at` on, and answers the place after it. Put into each of the walk's three calls: without, lists take up to 17 % more instructions.
 #[inline(always)]
-#[tactic(auto, unfolding(crate::specs::Leaves::leaf_bytes, crate::specs::Leaves::is_span_kind, crate::specs::Leaves::Inside, format::specs::Rows::integer_of_row))]
+#[tactic(auto, using(crate::proofs::Leaves::as_bytes), unfolding(crate::specs::Leaves::leaf_bytes, crate::specs::Leaves::is_span_kind, crate::specs::Leaves::Inside, format::specs::Rows::integer_of_row))]
 pub fn put(message: &[u8], output: &mut [u8], at: usize, words: RowWords) -> usize
     requires inside { Inside message.now (row_of words) }
     requires room { at + length (leaf_bytes message.now (row_of words)) ≤ length output.old }
     ensures output_after { output.new ≡ sets output.old at (leaf_bytes message.now (row_of words)) }
     ensures value { result ≡ at + length (leaf_bytes message.now (row_of words)) }
 {
-    let start = Offset(words.first as usize);
-    let n = words.second as usize;
     match Kind::try_from(words.kind) {
         Ok(Kind::Integer) => put_halves(output, at, words.first, words.second),
-        Ok(k @ (Kind::Atom | Kind::String | Kind::Binary)) => put_bytes(
-            message, output, at, k, start, n,
-        ),
+        Ok(k @ (Kind::Atom | Kind::String | Kind::Binary)) => {
+            put_bytes(table::span(message, words), output, at, k)
+        },
         Ok(Kind::Nil) => put_byte(output, at, byte::HASH),
         // a tuple's end; a row of no other kind is a leaf
         _ => put_braces(output, at),

@@ -4,20 +4,18 @@ ghost use Rattle.std.specs.Prelude.{◌≡◌, ◌+◌, ◌≤◌, length};
 ghost use Rattle.std.proofs.lemmas.List.Edits.{sets};
 ghost use Rattle.format.specs.Rows.{span_of};
 
-use format::Offset;
-
 // Bytes of a block.
 const BLOCK: usize = 8;
 
-// The block of the message from `from` on.
-fn load_block(message: &[u8], from: usize) -> [u8; 8]
-    requires { from + 8 ≤ length message.now }
-    ensures { result ≡ span_of message.now from 8 }
+// The block of a span from `from` on.
+fn load_block(bytes: &[u8], from: usize) -> [u8; 8]
+    requires { from + 8 ≤ length bytes.now }
+    ensures { result ≡ span_of bytes.now from 8 }
 {
     // here and in `store_block` no `copy_from_slice`: with it a text of strings of 400 bytes takes 25 % more instructions to write
     let mut block = [0; 8];
     for i in 0..BLOCK {
-        block[i] = message[from + i];
+        block[i] = bytes[from + i];
     }
     block
 }
@@ -32,40 +30,38 @@ fn store_block(output: &mut [u8], at: usize, block: [u8; 8])
     }
 }
 
-// Stores n bytes of the message by blocks. The last block ends where they end, over bytes that may be stored already.
-fn put_by_blocks(message: &[u8], from: usize, n: usize, output: &mut [u8], at: usize)
-    requires { (8 ≤ n) × (from + n ≤ length message.now) × (at + n ≤ length output.old) }
-    ensures { output.new ≡ sets output.old at (span_of message.now from n) }
+// Stores a span by blocks. The last block ends where it ends, over bytes that may be stored already.
+fn put_by_blocks(bytes: &[u8], output: &mut [u8], at: usize)
+    requires { (8 ≤ length bytes.now) × (at + length bytes.now ≤ length output.old) }
+    ensures { output.new ≡ sets output.old at bytes.now }
 {
-    let last = n - BLOCK;
+    let last = bytes.len() - BLOCK;
     for i in (0..last).step_by(BLOCK) {
-        store_block(output, at + i, load_block(message, from + i));
+        store_block(output, at + i, load_block(bytes, i));
     }
-    store_block(output, at + last, load_block(message, from + last));
+    store_block(output, at + last, load_block(bytes, last));
 }
 
-// Stores n bytes of the message one by one.
-fn put_by_one(message: &[u8], from: usize, n: usize, output: &mut [u8], at: usize)
-    requires { (from + n ≤ length message.now) × (at + n ≤ length output.old) }
-    ensures { output.new ≡ sets output.old at (span_of message.now from n) }
+// Stores a span byte by byte.
+fn put_by_one(bytes: &[u8], output: &mut [u8], at: usize)
+    requires { at + length bytes.now ≤ length output.old }
+    ensures { output.new ≡ sets output.old at bytes.now }
 {
-    for i in 0..n {
-        output[at + i] = message[from + i];
+    for i in 0..bytes.len() {
+        output[at + i] = bytes[i];
     }
 }
 
-// Stores so many bytes of the message from `at` on, and answers the place after them.
-pub fn put_span(message: &[u8], start: Offset, n: usize, output: &mut [u8], at: usize) -> usize
-    requires { (start.0 + n ≤ length message.now) × (at + n ≤ length output.old) }
-    ensures output_after { output.new ≡ sets output.old at (span_of message.now start.0 n) }
-    ensures value { result ≡ at + n }
+// Stores a span from `at` on, and answers the place after it.
+pub fn put_span(bytes: &[u8], output: &mut [u8], at: usize) -> usize
+    requires { at + length bytes.now ≤ length output.old }
+    ensures output_after { output.new ≡ sets output.old at bytes.now }
+    ensures value { result ≡ at + length bytes.now }
 {
-    let from = start.0;
-    let end = at + n;
-    if BLOCK <= n {
-        put_by_blocks(message, from, n, output, at);
-        return end;
+    if BLOCK <= bytes.len() {
+        put_by_blocks(bytes, output, at);
+    } else {
+        put_by_one(bytes, output, at);
     }
-    put_by_one(message, from, n, output, at);
-    end
+    at + bytes.len()
 }

@@ -7,7 +7,7 @@ ghost use Rattle.text.specs.Walk.{open_bytes, first_named, frame_row, pending, c
 
 use crate::rows::SoundRows;
 use format::kind::Kind;
-use format::{Offset, Row, bound, byte};
+use format::{Row, bound, byte};
 use leaves::leaf;
 use table::RowWords;
 
@@ -191,14 +191,17 @@ fn put_frame(table: SoundRows, stack: &mut [u32], top: usize, output: &mut [u8],
 {
     let frame = stack[top];
     let words = table::read_row(table.rows, Row(frame % ITEM_BEGUN));
-    let start = Offset(words.first as usize);
-    let n = words.second as usize;
     match Kind::try_from(words.kind) {
         Ok(Kind::Field) => put_fields(table, stack, top, Row(words.second), output, at),
         Ok(Kind::Tag) => Place {
             next: None,
             depth: top,
-            at: leaf::put_quoted(table.message, output, at, byte::TAG_QUOTE, start, n),
+            at: leaf::put_quoted(
+                table::span(table.message, words),
+                output,
+                at,
+                byte::TAG_QUOTE,
+            ),
         },
         Ok(Kind::Cons) => put_item(table, stack, top, Row(words.first), output, at),
         // a row of no other kind has a frame

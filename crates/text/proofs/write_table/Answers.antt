@@ -1,6 +1,5 @@
 -- `text::write_table` meets its contract: 16 by the claims of the table, or what its rows give.
 use mathlib.Core.Path.{sym, ◌∙◌}
-use lib.Seq.{length-take-le}
 use Rattle.text.proofs.Answered.{count_fails, root_fails, by_rows}
 use Rattle.text.proofs.write_table.Goals as goal
 

@@ -5,4 +5,4 @@ use Rattle.leaves.proofs.Spans as laws
 use Rattle.leaves.proofs.span.load_block.Given as goal
 
 abbrev pub invariant-loop-i : goal.invariant-loop-i
-invariant-loop-i l = laws.Copying (span_of l.message l.from 8) 0 l.initial.block l.block l.i
+invariant-loop-i l = laws.Copying (span_of l.bytes l.from 8) 0 l.initial.block l.block l.i

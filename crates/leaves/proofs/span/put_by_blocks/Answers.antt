@@ -6,19 +6,15 @@ use Rattle.leaves.proofs.span.put_by_blocks.Goals as goal
 use Rattle.leaves.proofs.span.put_by_blocks.Goals.{else-loop-i-test, then-loop-i-test+else-last-i-gt8}
 
 pub loop-i-preserved : goal.loop-i-preserved
-loop-i-preserved c =
-    laws.copies_block _ _ _ c.requires.1 _ _ c.loop-i.invariant 8 (omega arith) c.load_block.ensures c.store_block.ensures
+loop-i-preserved c = laws.copies _ _ _ c.loop-i.invariant 8 (omega arith) (rw c.load_block.ensures at c.store_block.ensures)
 
 pub returns : goal.returns
 returns c =
-    let inside = c.requires.1 in
     let inv = c.loop-i.invariant in
-    let load = c.load_block-2.ensures in
-    let store = c.store_block-2.ensures in
+    let last = rw c.load_block-2.ensures at c.store_block-2.ensures in
     elim c.loop-i-test.branch [
-      | else-loop-i-test w ↦
-          laws.ends_block _ _ _ inside _ _ (rw (← w.output-is) at inv) _ 8 w.loop-i-test.false (omega arith) load store
+      | else-loop-i-test w ↦ laws.ends-over _ _ _ (rw (← w.output-is) at inv) _ 8 w.loop-i-test.false (omega arith) last
       | then-loop-i-test+else-last-i-gt8 w ↦
-          let more = laws.copies_block _ _ _ inside _ _ inv 8 (omega arith) w.load_block.ensures w.store_block.ensures in
-          laws.ends_block _ _ _ inside _ _ (rw (← w.output-is) at more) _ 8 (omega arith) (omega arith) load store
+          let more = laws.copies _ _ _ inv 8 (omega arith) (rw w.load_block.ensures at w.store_block.ensures) in
+          laws.ends-over _ _ _ (rw (← w.output-is) at more) _ 8 (omega arith) (omega arith) last
     ]

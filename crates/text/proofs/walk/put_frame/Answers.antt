@@ -21,12 +21,18 @@ put_fields-requires c =
       room = rest-room turn c.read_row-words.ensures field;
     }
 
+pub span-requires : goal.span-requires
+unfolding frame_row
+span-requires c =
+    let tag = sym c.in-Ok-Tag.ensures ∙ ap kind_number c.in-Ok-Tag.field-0-is in
+    (tag_fits (turn_of c.requires) c.read_row-words.ensures tag).0
+
 pub put_quoted-requires : goal.put_quoted-requires
 unfolding frame_row
 put_quoted-requires c =
     let tag = sym c.in-Ok-Tag.ensures ∙ ap kind_number c.in-Ok-Tag.field-0-is in
-    let all = tag_fits (turn_of c.requires) c.read_row-words.ensures tag in
-    record { span_inside = all.0; room = all.1 }
+    let fits = (tag_fits (turn_of c.requires) c.read_row-words.ensures tag).1 in
+    rw c.span.ensures fits
 
 pub put_item-requires : goal.put_item-requires
 unfolding frame_row
@@ -51,4 +57,5 @@ pub returns-in-Ok-Tag : goal.returns-in-Ok-Tag
 unfolding frame_row
 returns-in-Ok-Tag c =
     let tag = sym c.in-Ok-Tag.ensures ∙ ap kind_number c.in-Ok-Tag.field-0-is in
-    tag-turned (turn_of c.requires) c.read_row-words.ensures tag c.put_quoted.ensures.output_after c.put_quoted.ensures.value
+    tag-turned (turn_of c.requires) c.read_row-words.ensures tag (rw c.span.ensures at c.put_quoted.ensures.output_after)
+    (rw c.span.ensures at c.put_quoted.ensures.value)
