@@ -17,7 +17,8 @@ use Rattle.format.proofs.SameBytes.{same_bytes_lem, same_refl}
 use Rattle.format.proofs.SoundTerms.{table-term}
 use Rattle.format.proofs.TableRows as R
 use Rattle.format.proofs.TableRows.{length-rows, judged}
-use Rattle.format.proofs.Tests.{both, either}
+use lib.Ieee.Fits.{and_i}
+use Rattle.format.proofs.Tests.{either}
 use Rattle.comparison.specs.Classes.{Side, Sound, term_in, same_term}
 use Rattle.comparison.specs.Same.{placed, has_span, SpanInside, same_span, same_class, same_cell, same_content, same_row}
 use Rattle.comparison.proofs.SameTerms.{never, both_of, same_of, same-is, same-term}
@@ -60,7 +61,7 @@ module _ (s : Side) (ok : Sound s) (i : ℕ) (l : i < s.used) where
   sound : T (sound_term (term_in s i))
   unfolding sound_table count_fits root_among
   sound = table-term s.message (omega (arith, ok.short)) s.words s.used i
-      (both (leb s.used (row_room s.words) && ltb i s.used) _ (both (leb s.used (row_room s.words)) _ (le→leb s.used (row_room s.words) ok.count) (lt→ltb i s.used l)) ok.rows)
+      (and_i (leb s.used (row_room s.words) && ltb i s.used) _ (and_i (leb s.used (row_room s.words)) _ (le→leb s.used (row_room s.words) ok.count) (lt→ltb i s.used l)) ok.rows)
 
   of_kind : kind_of (term_in s i) ≡ r.kind
   of_kind =

@@ -17,7 +17,7 @@ use Rattle.format.specs.Answer.{Tables, SameLengths, zeroed, cleared, decode_ref
 use Rattle.format.specs.declared.Row.{Row}
 use Rattle.format.proofs.Decoded.{accepts}
 use Rattle.format.proofs.SameBytes.{same_bytes_lem, same_refl}
-use Rattle.format.proofs.Tests.{true_of}
+use lib.Ieee.Bits.{is_true}
 use Rattle.format.proofs.Unchanged.{same-limits}
 use Rattle.std.specs.Prelude.{Result, Ok, Err}
 use Rattle.std.specs.Result.{result_or}
@@ -88,8 +88,8 @@ unfolding compare_answer
 accepted-answer message_a t_a u_a a first message_b t_b u_b b second scratch =
     let bound_a = (accepts message_a t_a (number message_a t_a u_a a first)).in_bound in
     let bound_b = (accepts message_b t_b (number message_b t_b u_b b second)).in_bound in
-    let sound_a = true_of (sound_table message_a u_a.rows a.used a.root.0) ((demand2 message_a t_a _ u_a first).sound a refl) in
-    let sound_b = true_of (sound_table message_b u_b.rows b.used b.root.0) ((demand2 message_b t_b _ u_b second).sound b refl) in
+    let sound_a = is_true (sound_table message_a u_a.rows a.used a.root.0) ((demand2 message_a t_a _ u_a first).sound a refl) in
+    let sound_b = is_true (sound_table message_b u_b.rows b.used b.root.0) ((demand2 message_b t_b _ u_b second).sound b refl) in
     rw (bound_a, bound_b, sound_a, sound_b) refl
 
 pub accepted_compare : AcceptedCompare

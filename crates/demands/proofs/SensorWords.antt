@@ -23,7 +23,7 @@ use Rattle.format.specs.declared.Row.{Row}
 use Rattle.format.proofs.Decoded.{accepts}
 use Rattle.format.proofs.Simulation.{terms_length}
 use Rattle.format.proofs.TableRows.{length-rows, passed}
-use Rattle.format.proofs.Tests.{true_of}
+use lib.Ieee.Bits.{is_true}
 use Rattle.format.specs.declared.refusal.Refusal.{Refusal}
 use Rattle.format.specs.declared.refusal.Refusal.TheVariants.{Uneven, NoWord}
 use Rattle.format.specs.declared.refusal.Refused.{Refused}
@@ -79,7 +79,7 @@ sound-at : (message words : List ℕ) (used root row : ℕ) → T (sound_table m
 unfolding sound_table count_fits root_among
 sound-at message words used root row h l =
     let p = passed message words used root h in
-    rw (le-leb used (row_room words) p.fits, lt-ltb row used l, true_of (sound_rows message (rows_of used words)) p.rows) refl
+    rw (le-leb used (row_room words) p.fits, lt-ltb row used l, is_true (sound_rows message (rows_of used words)) p.rows) refl
 
 -- `read_word`, on the table that `decode` left of an accepted message, answers by the term at the row
 row_word : (message : List ℕ) (t u : Tables) (a : Accepted) → decoded_as (Ok a) u ≡ decode_answer message t

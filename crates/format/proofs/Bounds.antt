@@ -1,8 +1,8 @@
 -- The numbers that bound the work, met to the byte: refusal 1 comes with the first byte over the bound, before every other refusal,
 -- and touches nothing; a table longer than its bound has room for the bound.
 use Prim.Native.Nat.{ℕ, ◌≤◌, ◌<◌}
-use mathlib.Core.Path.{◌≡◌, refl}
-use mathlib.Core.Bool.{Bool, true, false, ◌||◌}
+use mathlib.Core.Path.{◌≡◌}
+use mathlib.Core.Bool.{true, false, or-true}
 use mathlib.Core.List.{List}
 use lib.ListN.{length}
 use borrow.Author.Tests.{lt-ltb, le-ltb}
@@ -14,10 +14,6 @@ use Rattle.format.specs.Answer.{Tables, over_bound, limits_of, decode_refusal, d
 pub within : (message : List ℕ) → length message ≤ 1048576 → over_bound message ≡ false
 unfolding over_bound
 within message h = le-ltb message_bound (length message) h
-
-or_true : (b : Bool) → (b || true) ≡ true
-or_true true = refl
-or_true false = refl
 
 module _ (message : List ℕ) (long : 1048576 < length message) where
   over : over_bound message ≡ true
@@ -41,7 +37,7 @@ module _ (message : List ℕ) (long : 1048576 < length message) where
   pub compare_over_b : (words : List ℕ) (used root : ℕ) (other words' : List ℕ) (used' root' : ℕ) (scratch : List ℕ)
       → compare_answer other words' used' root' message words used root scratch ≡ compare_refusal 1 scratch
   unfolding compare_answer
-  compare_over_b words used root other words' used' root' scratch = rw (over, or_true)
+  compare_over_b words used root other words' used' root' scratch = rw (over, or-true)
 
   pub word_over : (words : List ℕ) (used root k : ℕ) → word_answer message words used root k ≡ no_word 1
   unfolding word_answer

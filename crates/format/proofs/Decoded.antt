@@ -13,7 +13,7 @@ use Rattle.format.specs.Meaning.{term_values, accepted_value, message_term}
 use Rattle.format.specs.Rows.{Row, row_values, row_words, term_at, words_of, rows_of, row_room}
 use Rattle.format.specs.Sound.{count_fits, root_among, sound_rows, sound_table}
 use Rattle.format.specs.Answer.{Tables, over_bound, limits_of, rows_in, cleared, decode_refusal, decode_result, decode_answer}
-use Rattle.format.proofs.Tests.{both}
+use lib.Ieee.Fits.{and_i}
 use Rattle.format.proofs.Simulation.{in_terms, same_answer}
 use Rattle.format.proofs.SoundRows.{accepted-rows}
 use Rattle.format.proofs.Limits.{accepted-free, rows_fit}
@@ -74,8 +74,8 @@ module _ (message : List ℕ) (t : Tables) where
       let room : res.used ≤ row_room t.rows = rows_fit row_values (limits_of t) message consumed res e in
       let same : length words ≡ length t.rows = rows-length t.rows res.memory (omega (arith, a.count)) in
       let lies : rows_of res.used words ≡ res.memory = rw (← a.count) (rows_in_lem t.rows res.memory) in
-      both (leb res.used (row_room words) && ltb res.root res.used) (sound_rows message (rows_of res.used words))
-      (both (leb res.used (row_room words)) (ltb res.root res.used) (le→leb res.used (row_room words) (rw same room)) (lt→ltb res.root res.used a.root))
+      and_i (leb res.used (row_room words) && ltb res.root res.used) (sound_rows message (rows_of res.used words))
+      (and_i (leb res.used (row_room words)) (ltb res.root res.used) (le→leb res.used (row_room words) (rw same room)) (lt→ltb res.root res.used a.root))
       (rw lies a.sound)
 
   module _ (z : (decode_answer message t).number ≡ 0) where

@@ -20,23 +20,14 @@ pub record Quoted (quote : ℕ) (r : List ℕ) (k : ℕ) : Type 0 where
   pub inside : k < length r
 
 abbrev pub ItemOk : List ℕ → Item → Type 0
-ItemOk r L.white_item = Unit {0}
 ItemOk r (L.comment_item k) = k < length r
 ItemOk r (L.atom_item k) = Quoted (code "'") r k
 ItemOk r (L.string_item k) = Quoted (code "\"") r k
 ItemOk r (L.tag_item k) = Quoted (code "`") r k
 ItemOk r (L.integer_item z k) = T (in_range z) × (k ≤ length r)
-ItemOk r L.open_item = Unit {0}
-ItemOk r L.close_item = Unit {0}
-ItemOk r L.tilde_item = Unit {0}
-ItemOk r L.hash_item = Unit {0}
-ItemOk r L.ampersand_item = Unit {0}
-ItemOk r L.end_item = Unit {0}
 ItemOk r (L.store_item x) = 1 ≤ length r
-ItemOk r (L.push_item x) = Unit {0}
-ItemOk r L.cut = Unit {0}
 ItemOk r (L.stray k) = k ≤ length r
-ItemOk r L.too_large = Unit {0}
+ItemOk r _ = Unit {0}
 
 -- a scan that has passed j bytes closes after k: `far` bytes on, all well spelled
 record Closes (quote : ℕ) (escaped : Bool) (j : ℕ) (r : List ℕ) (k : ℕ) : Type 0 where
@@ -127,22 +118,15 @@ store_ok (c ∷ r) = cond-ok (c ∷ r) (has_class B.register c) (L.store_item c)
 
 item_ok : (k : Class) (c : ℕ) (r : List ℕ) → ItemOk r (item_of k c r)
 unfolding item_of
-item_ok B.white c r = tt
 item_ok B.digit c r = integer-ok (λ v. pos v) r (digits (c - code "0") 0 r) (digits-ok (c - code "0") 0 r)
 item_ok B.minus c r = negative_ok r
 item_ok B.atom_quote c r = quoted-ok (code "'") L.atom_item r (λ k m. m)
 item_ok B.string_quote c r = quoted-ok (code "\"") L.string_item r (λ k m. m)
 item_ok B.tag_quote c r = quoted-ok (code "`") L.tag_item r (λ k m. m)
 item_ok B.comment_quote c r = quoted-ok (code "%") L.comment_item r (λ k m. m.inside)
-item_ok B.left_brace c r = tt
-item_ok B.right_brace c r = tt
-item_ok B.tilde c r = tt
-item_ok B.hash c r = tt
-item_ok B.ampersand c r = tt
-item_ok B.dollar c r = tt
 item_ok B.greater c r = store_ok r
 item_ok B.comma c r = omega arith
-item_ok B.register c r = tt
+item_ok _ c r = tt
 
 pub lex-ok : (c : ℕ) (r : List ℕ) → ItemOk r (lex c r)
 unfolding lex

@@ -21,23 +21,26 @@ use Rattle.format.specs.Lex.{Item, integer_item, atom_item, string_item, tag_ite
 use Rattle.format.specs.Machine.{Machine, Limits, Outcome, Result, refused, accepted, run, go, base, start, fresh, take_binary, cons_list, only_value, end_message, step, follow, run_free_from, run_free}
 use Rattle.format.specs.Meaning.{term_integer, term_is_list, items_of, term_of, term_values, accepted_value, message_term}
 use Rattle.format.specs.Sound.{spelled, sound_term, sound_terms}
-use Rattle.format.proofs.Tests.{true_of, false_of, left_of, right_of}
+use lib.Ieee.Bits.{is_false, is_true}
+use lib.Ieee.Fits.{and_l, and_r}
 use Rattle.format.proofs.Limits.{Under, NoRoom, refuses, accepts, short, under-limits}
+use Rattle.std.specs.List.{range_with_len}
+use Rattle.format.proofs.Table.{entry}
 use Rattle.format.proofs.FreeRun.{free-go, free-skip, pop_ok, close_ok}
 
 -- the closing quote is found where the spelled bytes end
 scan-spelled : (quote : ℕ) (escaped : Bool) (k : ℕ) (b r : List ℕ) → T (spelled quote escaped b) → scan quote escaped k (b ++ quote ∷ r) ≡ closed_at (k + length b)
 unfolding scan spelled
 scan-spelled quote true k [] r t = absurd t
-scan-spelled quote false k [] r t = rw (true_of (eqb quote quote) (eqb_refl quote), scan) (ap closed_at (sym (add-zero k)))
+scan-spelled quote false k [] r t = rw (is_true (eqb quote quote) (eqb_refl quote), scan) (ap closed_at (sym (add-zero k)))
 scan-spelled quote true k (c ∷ b) r t =
     let ok = eqb c (code "\\") || eqb c quote in
-    rw (true_of ok (left_of ok (spelled quote false b) t), scan)
-    (scan-spelled quote false (suc k) b r (right_of ok (spelled quote false b) t) ∙ ap closed_at (omega arith))
+    rw (is_true ok (and_l ok (spelled quote false b) t), scan)
+    (scan-spelled quote false (suc k) b r (and_r ok (spelled quote false b) t) ∙ ap closed_at (omega arith))
 scan-spelled quote false k (c ∷ b) r t =
     let after = eqb c (code "\\") in
-    rw (false_of (eqb c quote) (left_of (not (eqb c quote)) (spelled quote after b) t), scan)
-    (scan-spelled quote after (suc k) b r (right_of (not (eqb c quote)) (spelled quote after b) t) ∙ ap closed_at (omega arith))
+    rw (is_false (eqb c quote) (and_l (not (eqb c quote)) (spelled quote after b) t), scan)
+    (scan-spelled quote after (suc k) b r (and_r (not (eqb c quote)) (spelled quote after b) t) ∙ ap closed_at (omega arith))
 
 quoted-spelled : (quote : ℕ) (item : ℕ → Item) (b r : List ℕ) → T (spelled quote false b) → quoted quote item (b ++ quote ∷ r) ≡ item (length b)
 unfolding quoted quoted_item
@@ -45,17 +48,7 @@ quoted-spelled quote item b r t = rw (scan-spelled quote false 0 b r t, zero-add
 
 digit_class : (d : ℕ) → d < 10 → class_of (code "0" + d) ≡ B.digit
 unfolding class_of class_in specials
-digit_class zero h = refl
-digit_class (suc zero) h = refl
-digit_class (suc (suc zero)) h = refl
-digit_class (suc (suc (suc zero))) h = refl
-digit_class (suc (suc (suc (suc zero)))) h = refl
-digit_class (suc (suc (suc (suc (suc zero))))) h = refl
-digit_class (suc (suc (suc (suc (suc (suc zero)))))) h = refl
-digit_class (suc (suc (suc (suc (suc (suc (suc zero))))))) h = refl
-digit_class (suc (suc (suc (suc (suc (suc (suc (suc zero)))))))) h = refl
-digit_class (suc (suc (suc (suc (suc (suc (suc (suc (suc zero))))))))) h = refl
-digit_class (suc (suc (suc (suc (suc (suc (suc (suc (suc (suc d)))))))))) h = absurd (omega arith)
+digit_class d h = sym (entry (λ (n : ℕ). B.digit) (λ k. class_of (code "0" + k)) (range_with_len 0 10) 10 0 refl d h)
 
 -- a text that begins with the digits of n; rest comes after them
 record Written (n : ℕ) (rest text : List ℕ) : Type 0 where
@@ -104,7 +97,7 @@ natural-written n rest = written n n rest (omega arith)
 integer-ends : (sign : ℕ → ℤ) (v k stop : ℕ) (r : List ℕ) → has_class B.digit stop ≡ false → T (in_range (sign v))
     → integer_of sign (digits v k (stop ∷ r)) ≡ integer_item (sign v) k
 unfolding digits integer_of
-integer-ends sign v k stop r d h = rw (d, digits) (rw (true_of (in_range (sign v)) h, integer_of))
+integer-ends sign v k stop r d h = rw (d, digits) (rw (is_true (in_range (sign v)) h, integer_of))
 
 -- with stack and marks given; a plain text uses no register
 abbrev state : List Term → List ℕ → Machine term_values
@@ -261,23 +254,23 @@ mutual
       read_then (read_open (fields_on ts (code "}" ∷ rest)) st marks at)
       (read_then (read_fields ts (code "}" ∷ rest) st (length st ∷ marks) _ s (base-own (length st) marks)) (read_close rest st marks _ ts))
   read-term (T.tag b t) rest st marks at s h =
-      read_then (read-term t (between (code "`") b rest) st marks at (right_of (spelled (code "`") false b) (sound_term t) s) h)
-      (read-tag rest st marks _ t h b (left_of (spelled (code "`") false b) (sound_term t) s))
+      read_then (read-term t (between (code "`") b rest) st marks at (and_r (spelled (code "`") false b) (sound_term t) s) h)
+      (read-tag rest st marks _ t h b (and_l (spelled (code "`") false b) (sound_term t) s))
 
   read_items : (ts : Terms) (rest : List ℕ) (st : List Term) (marks : List ℕ) (at : ℕ) → T (sound_terms ts) → base marks ≤ length st
       → Reads (items_on ts rest) rest (state (T.list T.none ∷ st) marks) (state (T.list ts ∷ st) marks) at
   read_items T.none rest st marks at s h = read_nothing rest _ at
   read_items (t then ts) rest st marks at s h =
-      read_then (read_items ts (text_on t (code "&" ∷ rest)) st marks at (right_of (sound_term t) (sound_terms ts) s) h)
-      (read_then (read-term t (code "&" ∷ rest) (T.list ts ∷ st) marks _ (left_of (sound_term t) (sound_terms ts) s) (omega arith))
+      read_then (read_items ts (text_on t (code "&" ∷ rest)) st marks at (and_r (sound_term t) (sound_terms ts) s) h)
+      (read_then (read-term t (code "&" ∷ rest) (T.list ts ∷ st) marks _ (and_l (sound_term t) (sound_terms ts) s) (omega arith))
       (read-ampersand rest st marks _ t ts h))
 
   read_fields : (ts : Terms) (rest : List ℕ) (st : List Term) (marks : List ℕ) (at : ℕ) → T (sound_terms ts) → base marks ≤ length st
       → Reads (fields_on ts rest) rest (state st marks) (state (reverse_aux (list_of ts) st) marks) at
   read_fields T.none rest st marks at s h = read_nothing rest _ at
   read_fields (t then ts) rest st marks at s h =
-      read_then (read-term t (fields_on ts rest) st marks at (left_of (sound_term t) (sound_terms ts) s) h)
-      (read_fields ts rest (t ∷ st) marks _ (right_of (sound_term t) (sound_terms ts) s) (omega arith))
+      read_then (read-term t (fields_on ts rest) st marks at (and_l (sound_term t) (sound_terms ts) s) h)
+      (read_fields ts rest (t ∷ st) marks _ (and_r (sound_term t) (sound_terms ts) s) (omega arith))
 
 -- the plain text of a sound term, read by the machine with nothing else, gives that term and consumes all of it
 pub read_back : (t : Term) → T (sound_term t) → run_free term_values (plain t) ≡ accepted (length (plain t)) t

@@ -21,16 +21,16 @@ use Rattle.format.specs.Bits.{to_bits, from_bits}
 use Rattle.format.specs.Rows.{Row, row, row_values, make_rows, add, add_tuple, integer_row, span_row, nil_row, cons_row, end_row, field_row, tag_row, row_at, integer_of_row, row_integer, is_list_kind, no_term, fields_of, span_of, term_of_row, terms_after, term_at}
 use Rattle.format.specs.Machine as M
 use Rattle.format.specs.Machine.{Machine, Shape, Step, Outcome, Result, Limits, base, refuse, go, finish, refused, accepted, run}
-use Rattle.format.proofs.Tests.{true_of}
+use lib.Ieee.Bits.{is_true}
 use Rattle.format.proofs.Lists.{drop-next}
 use Rattle.format.proofs.Items.{ItemOk, lex-ok}
 
 -- 64 bits hold every integer in range
 pub bits_hold : (z : ℤ) → T (in_range z) → from_bits 64 (to_bits 64 z) ≡ z
 unfolding from_bits to_bits in_range
-bits_hold (pos k) h = rw (true_of (ltb k (2 ^ 63)) h)
+bits_hold (pos k) h = rw (is_true (ltb k (2 ^ 63)) h)
 bits_hold (negsuc k) h =
-    let l : k < 2 ^ 63 = ltb-true k (2 ^ 63) (true_of (ltb k (2 ^ 63)) h) in
+    let l : k < 2 ^ 63 = ltb-true k (2 ^ 63) (is_true (ltb k (2 ^ 63)) h) in
     rw (le-ltb (2 ^ 64 - suc k) (2 ^ 63) (omega arith)) (ap negsuc (omega arith))
 
 halves : (w : ℕ) → w / 2 ^ 32 * 2 ^ 32 + w % 2 ^ 32 ≡ w

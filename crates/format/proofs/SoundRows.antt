@@ -13,7 +13,7 @@ use Rattle.format.specs.Rows.{Row, row_values, make_rows, add, add_tuple, intege
 use Rattle.format.specs.Sound.{in_slice, spelled_in, sound_row, sound_rest, sound_after, sound_rows}
 use Rattle.format.specs.Machine as M
 use Rattle.format.specs.Machine.{Machine, Shape, Limits, Step, Result, accepted, run}
-use Rattle.format.proofs.Tests.{left_of, right_of, both}
+use lib.Ieee.Fits.{and_i, and_l, and_r}
 use Rattle.format.proofs.Lists.{drop-next}
 use Rattle.format.proofs.Items.{Quoted}
 use Rattle.format.proofs.Moves as Mv
@@ -57,12 +57,12 @@ module _ (message : List ℕ) where
 
   after-add : (earlier rows : List Row) (r : Row) → T (sound_after message earlier rows) → Fits (earlier ++ rows) r → T (sound_after message earlier (rows ++ (r ∷ [])))
   unfolding sound_after
-  after-add earlier [] r h g = both (sound_row message (length earlier) r && sound_rest r.kind (row_at earlier r.second).kind) true (rw append-nil at g) tt
+  after-add earlier [] r h g = and_i (sound_row message (length earlier) r && sound_rest r.kind (row_at earlier r.second).kind) true (rw append-nil at g) tt
   after-add earlier (x ∷ rows) r h g =
       let own = sound_row message (length earlier) x && sound_rest x.kind (row_at earlier x.second).kind in
       let tail = sound_after message (earlier ++ (x ∷ [])) rows in
-      both own (sound_after message (earlier ++ (x ∷ [])) (rows ++ (r ∷ []))) (left_of own tail h)
-      (after-add (earlier ++ (x ∷ [])) rows r (right_of own tail h) (rw append_assoc g))
+      and_i own (sound_after message (earlier ++ (x ∷ [])) (rows ++ (r ∷ []))) (and_l own tail h)
+      (after-add (earlier ++ (x ∷ [])) rows r (and_r own tail h) (rw append_assoc g))
 
   -- rows with n more, all sound, the last of them being row p .1
   record Grown (rows : List Row) (n : ℕ) (p : List Row × ℕ) : Type 0 where
@@ -95,8 +95,8 @@ module _ (message : List ℕ) where
       let rows' = (add_tuple rows vs).0 in
       let e = (add_tuple rows vs).1 in
       let one : Grown rows' 1 (add rows' (field_row v e)) = grown_one rows' (field_row v e) t.grown.sound
-      (both (ltb v (length rows') && ltb e (length rows')) (is_tuple_kind (row_at rows' e).kind)
-      (both (ltb v (length rows')) (ltb e (length rows')) (lt→ltb v (length rows') (omega (arith, g.0, t.grown.longer))) (lt→ltb e (length rows') t.grown.inside)) t.is_tuple) in
+      (and_i (ltb v (length rows') && ltb e (length rows')) (is_tuple_kind (row_at rows' e).kind)
+      (and_i (ltb v (length rows')) (ltb e (length rows')) (lt→ltb v (length rows') (omega (arith, g.0, t.grown.longer))) (lt→ltb e (length rows') t.grown.inside)) t.is_tuple) in
       record {
         grown = record { sound = one.sound; longer = omega (arith, one.longer, t.grown.longer); inside = one.inside };
         is_tuple = last-kind rows' (field_row v e) tt;
@@ -145,7 +145,7 @@ module _ (message : List ℕ) where
     unfolding spelled_in
     span-spelled quote n h =
         let l : n ≤ length r = omega (arith, h.inside) in
-        both (in_slice message (suc at) (length (take n r))) _ (span_in n l) (rw (length-take-le n r l, drop-next message at k.here) h.spells)
+        and_i (in_slice message (suc at) (length (take n r))) _ (span_in n l) (rw (length-take-le n r l, drop-next message at k.here) h.spells)
 
     -- a popped value and the stack under it
     popped : {stack : List ℕ} {v : ℕ} {st : List ℕ} → Below (length m.memory) stack → Popped row_values at r m stack v st → Below (length m.memory) (v ∷ st)
@@ -155,7 +155,7 @@ module _ (message : List ℕ) where
     earlier v h = lt→ltb v (length m.memory) h
 
     one_row : (x : Row) → T (sound_row message (length m.memory) x) → T (sound_rest x.kind (row_at m.memory x.second).kind) → Grown m.memory 1 (add m.memory x)
-    one_row x h g = grown_one m.memory x k.sound (both (sound_row message (length m.memory) x) _ h g)
+    one_row x h g = grown_one m.memory x k.sound (and_i (sound_row message (length m.memory) x) _ h g)
 
     -- the row that a shape makes is sound
     made : {shape : Shape ℕ} {st : List ℕ} → Making row_values at r m shape st → Below (length m.memory) st × Grown m.memory 1 (make_rows shape m.memory)
@@ -168,10 +168,10 @@ module _ (message : List ℕ) where
     made (Mv.conses v l p q t) =
         let a = popped k.stack p in
         let b = popped a.1 q in
-        (b.1, one_row (cons_row v l) (both (ltb v (length m.memory)) _ (earlier v a.0) (earlier l b.0)) (subst T (sym t) tt))
+        (b.1, one_row (cons_row v l) (and_i (ltb v (length m.memory)) _ (earlier v a.0) (earlier l b.0)) (subst T (sym t) tt))
     made (Mv.tags n v p h) =
         let a = popped k.stack p in
-        (a.1, one_row _ (both (spelled_in message (code "`") (suc at) (length (take n r))) _ (span-spelled (code "`") n h) (earlier v a.0)) tt)
+        (a.1, one_row _ (and_i (spelled_in message (code "`") (suc at) (length (take n r))) _ (span-spelled (code "`") n h) (earlier v a.0)) tt)
 
     -- the same rows, no row more
     still : {m' : Machine row_values} → m'.memory ≡ m.memory → Below (length m.memory) m'.stack → ((x : ℕ) → BelowIf (length m.memory) (m'.registers x)) → Kept (suc at) r (used + 0) m'

@@ -16,7 +16,7 @@ use Rattle.format.specs.Meaning.{items_of}
 use Rattle.format.specs.Bits.{from_bits}
 use Rattle.format.specs.Rows.{Row, integer_kind, atom_kind, string_kind, binary_kind, nil_kind, cons_kind, end_kind, field_kind, tag_kind, integer_of_row, no_term, fields_of, span_of, term_of_row, terms_after, term_at, rows_of}
 use Rattle.format.specs.Sound.{spelled, in_slice, spelled_in, sound_row, sound_rest, sound_after, sound_rows, sound_table, sound_term, sound_terms}
-use Rattle.format.proofs.Tests.{left_of, right_of, both}
+use lib.Ieee.Fits.{and_i, and_l, and_r}
 use Rattle.format.proofs.TableRows.{passed}
 
 -- two's complement of 64 bits is in range, whatever the words hold
@@ -44,23 +44,13 @@ sound-at (t ∷ ts) (suc i) h = sound-at ts i h.1
 
 items_sound : (t : Term) → T (sound_term t) → T (sound_terms (items_of t))
 unfolding sound_term items_of
-items_sound (T.int z) h = tt
-items_sound (T.atom b) h = tt
-items_sound (T.string b) h = tt
-items_sound (T.binary b) h = tt
 items_sound (T.list ts) h = h
-items_sound (T.tuple ts) h = tt
-items_sound (T.tag b t) h = tt
+items_sound _ h = tt
 
 fields_sound : (t : Term) → T (sound_term t) → T (sound_terms (fields_of t))
 unfolding sound_term fields_of
-fields_sound (T.int z) h = tt
-fields_sound (T.atom b) h = tt
-fields_sound (T.string b) h = tt
-fields_sound (T.binary b) h = tt
-fields_sound (T.list ts) h = tt
 fields_sound (T.tuple ts) h = h
-fields_sound (T.tag b t) h = tt
+fields_sound _ h = tt
 
 -- the test of a kind, and the term of that kind
 kind-sound : (q : Bool) (b b' : Bool) (t t' : Term) → T (cond q b b') → (T b → T (sound_term t)) → (T b' → T (sound_term t')) → T (sound_term (cond q t t'))
@@ -70,7 +60,7 @@ kind-sound false b b' t t' h f g = g h
 module _ (message : List ℕ) (short : length message < 2 ^ 63) where
   spelled_of : (quote a b : ℕ) → T (spelled_in message quote a b) → T (spelled quote false (span_of message a b))
   unfolding spelled_in
-  spelled_of quote a b h = right_of (in_slice message a b) (spelled quote false (span_of message a b)) h
+  spelled_of quote a b h = and_r (in_slice message a b) (spelled quote false (span_of message a b)) h
 
   span-short : (a b : ℕ) → T (in_slice message a b) → T (in_range (pos (length (span_of message a b))))
   unfolding in_slice in_range
@@ -87,14 +77,14 @@ module _ (message : List ℕ) (short : length message < 2 ^ 63) where
       let c = r.third in
       let at : (j : ℕ) → T (sound_term (get_or ts j no_term)) = λ j. sound-at ts j s in
       kind-sound (eqb r.kind integer_kind) _ _ _ _ h (λ g. bits_range (a * 2 ^ 32 + b)) (λ h1.
-      kind-sound (eqb r.kind atom_kind) _ _ _ _ h1 (λ g. spelled_of (code "'") a b (right_of (eqb c 0) _ g)) (λ h2.
-      kind-sound (eqb r.kind string_kind) _ _ _ _ h2 (λ g. spelled_of (code "\"") a b (right_of (eqb c 0) _ g)) (λ h3.
-      kind-sound (eqb r.kind binary_kind) _ _ _ _ h3 (λ g. span-short a b (right_of (eqb c 0) _ g)) (λ h4.
+      kind-sound (eqb r.kind atom_kind) _ _ _ _ h1 (λ g. spelled_of (code "'") a b (and_r (eqb c 0) _ g)) (λ h2.
+      kind-sound (eqb r.kind string_kind) _ _ _ _ h2 (λ g. spelled_of (code "\"") a b (and_r (eqb c 0) _ g)) (λ h3.
+      kind-sound (eqb r.kind binary_kind) _ _ _ _ h3 (λ g. span-short a b (and_r (eqb c 0) _ g)) (λ h4.
       kind-sound (eqb r.kind nil_kind) _ _ _ _ h4 (λ g. tt) (λ h5.
-      kind-sound (eqb r.kind cons_kind) _ _ _ _ h5 (λ g. both (sound_term (get_or ts a no_term)) _ (at a) (items_sound (get_or ts b no_term) (at b))) (λ h6.
+      kind-sound (eqb r.kind cons_kind) _ _ _ _ h5 (λ g. and_i (sound_term (get_or ts a no_term)) _ (at a) (items_sound (get_or ts b no_term) (at b))) (λ h6.
       kind-sound (eqb r.kind end_kind) _ _ _ _ h6 (λ g. tt) (λ h7.
-      kind-sound (eqb r.kind field_kind) _ _ _ _ h7 (λ g. both (sound_term (get_or ts a no_term)) _ (at a) (fields_sound (get_or ts b no_term) (at b))) (λ h8.
-      kind-sound (eqb r.kind tag_kind) _ _ _ _ h8 (λ g. both (spelled (code "`") false (span_of message a b)) _ (spelled_of (code "`") a b (left_of (spelled_in message (code "`") a b) _ g)) (at c)) (λ h9.
+      kind-sound (eqb r.kind field_kind) _ _ _ _ h7 (λ g. and_i (sound_term (get_or ts a no_term)) _ (at a) (fields_sound (get_or ts b no_term) (at b))) (λ h8.
+      kind-sound (eqb r.kind tag_kind) _ _ _ _ h8 (λ g. and_i (spelled (code "`") false (span_of message a b)) _ (spelled_of (code "`") a b (and_l (spelled_in message (code "`") a b) _ g)) (at c)) (λ h9.
       absurd h9)))))))))
 
   terms_sound : (earlier : List Row) (ts : List Term) (rows : List Row) → AllSound ts → T (sound_after message earlier rows) → AllSound (terms_after message ts rows)
@@ -104,7 +94,7 @@ module _ (message : List ℕ) (short : length message < 2 ^ 63) where
       let own = sound_row message (length earlier) r in
       let rest = sound_rest r.kind _ in
       terms_sound (earlier ++ (r ∷ [])) (ts ++ (term_of_row message ts r ∷ [])) rows
-      (all_add ts (term_of_row message ts r) s (row-sound (length earlier) ts r s (left_of own rest (left_of (own && rest) _ h)))) (right_of (own && rest) _ h)
+      (all_add ts (term_of_row message ts r) s (row-sound (length earlier) ts r s (and_l own rest (and_l (own && rest) _ h)))) (and_r (own && rest) _ h)
 
   pub table-term : (words : List ℕ) (used root : ℕ) → T (sound_table message words used root) → T (sound_term (term_at message (rows_of used words) root))
   unfolding sound_rows term_at

@@ -146,22 +146,14 @@ store-agree (c ∷ x) z = same
 
 item-agree : (k : Class) (c : ℕ) (x z : List ℕ) → Items (length x) (item_of k c x) (item_of k c (x ++ z))
 unfolding item_of
-item-agree B.white c x z = same
 item-agree B.digit c x z = integer-agree (length x) (λ v. pos v) (digits-agree (length x) (c - code "0") 0 x z (omega arith))
 item-agree B.minus c x z = negative-agree x z
 item-agree B.atom_quote c x z = quoted-agree (code "'") L.atom_item x z (λ k h. far_atom h)
 item-agree B.string_quote c x z = quoted-agree (code "\"") L.string_item x z (λ k h. far_string h)
 item-agree B.tag_quote c x z = quoted-agree (code "`") L.tag_item x z (λ k h. far_tag h)
 item-agree B.comment_quote c x z = quoted-agree (code "%") L.comment_item x z (λ k h. far_comment h)
-item-agree B.left_brace c x z = same
-item-agree B.right_brace c x z = same
-item-agree B.tilde c x z = same
-item-agree B.hash c x z = same
-item-agree B.ampersand c x z = same
-item-agree B.dollar c x z = same
 item-agree B.greater c x z = store-agree x z
-item-agree B.comma c x z = same
-item-agree B.register c x z = same
+item-agree _ c x z = same
 
 lex-agree : (c : ℕ) (x z : List ℕ) → Items (length x) (lex c x) (lex c (x ++ z))
 unfolding lex
@@ -231,24 +223,13 @@ module _ (𝒱 : Values) where
     -- the same item on both sides
     step_same : (i : Item) → ItemOk x i → Steps (M.step 𝒱 at x m i) (M.step 𝒱 at (x ++ z) m i)
     unfolding M.step
-    step_same L.white_item h = same
-    step_same (L.comment_item k) h = same
     step_same (L.atom_item k) h = take-agree (λ b. go (suc k) 1 (M.fresh 𝒱 at (M.atom (suc at) b) m.stack m.marks m)) k h.inside
     step_same (L.string_item k) h = take-agree (λ b. go (suc k) 1 (M.fresh 𝒱 at (M.string (suc at) b) m.stack m.marks m)) k h.inside
     step_same (L.tag_item k) h =
         take-agree (λ b. M.pop 𝒱 at m.marks m.stack (λ v st. go (suc k) 1 (M.fresh 𝒱 at (M.tag (suc at) b v) st m.marks m))) k h.inside
-    step_same (L.integer_item i k) h = same
-    step_same L.open_item h = same
-    step_same L.close_item h = same
     step_same L.tilde_item h = pop-agree m.stack _ _ (λ v st. binary-agree st (𝒱.integer_in m.memory v))
-    step_same L.hash_item h = same
-    step_same L.ampersand_item h = same
-    step_same L.end_item h = same
-    step_same (L.store_item b) h = same
-    step_same (L.push_item b) h = same
     step_same L.cut h = ends tt
-    step_same (L.stray k) h = same
-    step_same L.too_large h = same
+    step_same _ h = same
 
     step-far : {i : Item} → FarItem (length x) i → FarStep (length x) (M.step 𝒱 at (x ++ z) m i)
     unfolding M.step

@@ -16,7 +16,8 @@ use Rattle.format.specs.Term.{Term, ◌then◌}
 use Rattle.format.specs.Meaning.{items_of}
 use Rattle.format.specs.Rows.{Row, row, row_at, row_words, rows_of, row_room, integer_kind, atom_kind, string_kind, binary_kind, nil_kind, cons_kind, end_kind, field_kind, tag_kind, integer_of_row, span_of, fields_of, no_term, term_of_row, terms_after, term_at}
 use Rattle.format.specs.Sound.{in_slice, spelled, spelled_in, count_fits, root_among, sound_row, sound_rest, sound_after, sound_rows, sound_table}
-use Rattle.format.proofs.Tests.{left_of, right_of, either}
+use lib.Ieee.Fits.{and_l, and_r}
+use Rattle.format.proofs.Tests.{either}
 
 -- as many rows lie in words as are read there
 pub length-rows : (used : ℕ) (words : List ℕ) → length (rows_of used words) ≡ used
@@ -35,45 +36,45 @@ unfolding sound_table count_fits root_among
 passed message words used root h =
     let count = count_fits words used in
     let claims = count && root_among used root in
-    let claimed = left_of claims (sound_rows message (rows_of used words)) h in
+    let claimed = and_l claims (sound_rows message (rows_of used words)) h in
     record {
-      fits = leb→le used (row_room words) (left_of count (root_among used root) claimed);
-      among = ltb→lt root used (right_of count (root_among used root) claimed);
-      rows = right_of claims (sound_rows message (rows_of used words)) h;
+      fits = leb→le used (row_room words) (and_l count (root_among used root) claimed);
+      among = ltb→lt root used (and_r count (root_among used root) claimed);
+      rows = and_r claims (sound_rows message (rows_of used words)) h;
     }
 
 module _ (message : List ℕ) where
   -- a span that is spelled as between quotes lies in the slice
   spelled-inside : (quote start n : ℕ) → T (spelled_in message quote start n) → start + n ≤ length message
   unfolding spelled_in in_slice
-  spelled-inside quote start n h = leb→le (start + n) (length message) (left_of (in_slice message start n) (spelled quote false (span_of message start n)) h)
+  spelled-inside quote start n h = leb→le (start + n) (length message) (and_l (in_slice message start n) (spelled quote false (span_of message start n)) h)
 
   -- what a row's own words say of its span and of the rows that it names, by its kind
   module _ (i : ℕ) (r : Row) (s : T (sound_row message i r)) where
     pub atom-inside : r.kind ≡ atom_kind → r.first + r.second ≤ length message
     unfolding sound_row
-    atom-inside k = let h = rw (k) at s in spelled-inside (code "'") r.first r.second (right_of (eqb r.third 0) _ h)
+    atom-inside k = let h = rw (k) at s in spelled-inside (code "'") r.first r.second (and_r (eqb r.third 0) _ h)
 
     pub string-inside : r.kind ≡ string_kind → r.first + r.second ≤ length message
     unfolding sound_row
-    string-inside k = let h = rw (k) at s in spelled-inside (code "\"") r.first r.second (right_of (eqb r.third 0) _ h)
+    string-inside k = let h = rw (k) at s in spelled-inside (code "\"") r.first r.second (and_r (eqb r.third 0) _ h)
 
     pub binary-inside : r.kind ≡ binary_kind → r.first + r.second ≤ length message
     unfolding sound_row in_slice
-    binary-inside k = let h = rw (k) at s in leb→le (r.first + r.second) (length message) (right_of (eqb r.third 0) _ h)
+    binary-inside k = let h = rw (k) at s in leb→le (r.first + r.second) (length message) (and_r (eqb r.third 0) _ h)
 
     pub tag-inside : r.kind ≡ tag_kind → r.first + r.second ≤ length message
     unfolding sound_row
-    tag-inside k = let h = rw (k) at s in spelled-inside (code "`") r.first r.second (left_of (spelled_in message (code "`") r.first r.second) _ h)
+    tag-inside k = let h = rw (k) at s in spelled-inside (code "`") r.first r.second (and_l (spelled_in message (code "`") r.first r.second) _ h)
 
     pub tag-inner : r.kind ≡ tag_kind → r.third < i
     unfolding sound_row
-    tag-inner k = let h = rw (k) at s in ltb→lt r.third i (right_of (spelled_in message (code "`") r.first r.second) _ h)
+    tag-inner k = let h = rw (k) at s in ltb→lt r.third i (and_r (spelled_in message (code "`") r.first r.second) _ h)
 
     -- a list cell, or a tuple's field
     cell-earlier : T (eqb r.third 0 && ltb r.first i && ltb r.second i) → (r.first < i) × (r.second < i)
     cell-earlier h =
-        (ltb→lt r.first i (right_of (eqb r.third 0) _ (left_of (eqb r.third 0 && ltb r.first i) _ h)), ltb→lt r.second i (right_of (eqb r.third 0 && ltb r.first i) _ h))
+        (ltb→lt r.first i (and_r (eqb r.third 0) _ (and_l (eqb r.third 0 && ltb r.first i) _ h)), ltb→lt r.second i (and_r (eqb r.third 0 && ltb r.first i) _ h))
 
     pub cons-earlier : r.kind ≡ cons_kind → (r.first < i) × (r.second < i)
     unfolding sound_row
@@ -113,7 +114,7 @@ module _ (message : List ℕ) where
   judged-from : (earlier rows : List Row) → T (sound_after message earlier rows) → (i : ℕ) → length earlier ≤ i → i < length (earlier ++ rows) → Judged (earlier ++ rows) i
   unfolding sound_after row_at
   judged-from earlier [] h i l u = absurd (omega (arith, length-append earlier []))
-  judged-from earlier (r ∷ rows) h i l u = by (eqb i (length earlier)) refl (λ l' u'. judged-from (earlier ++ (r ∷ [])) rows (right_of own' _ h) i l' u')
+  judged-from earlier (r ∷ rows) h i l u = by (eqb i (length earlier)) refl (λ l' u'. judged-from (earlier ++ (r ∷ [])) rows (and_r own' _ h) i l' u')
     where
       own : Bool
       own = sound_row message (length earlier) r
@@ -126,10 +127,10 @@ module _ (message : List ℕ) where
           → Judged (earlier ++ (r ∷ rows)) i
       by true e more =
           let at : row_at (earlier ++ (r ∷ rows)) (length earlier) ≡ r = get_or-append_seam earlier r rows (row 0 0 0 0) in
-          let first = left_of own' _ h in
+          let first = and_l own' _ h in
           rw (eqb-true i (length earlier) e) (record {
-            own = rw at (left_of own _ first);
-            rest = rw at (same_rest earlier (r ∷ rows) r (left_of own _ first) (right_of own _ first));
+            own = rw at (and_l own _ first);
+            rest = rw at (same_rest earlier (r ∷ rows) r (and_l own _ first) (and_r own _ first));
           })
       by false e more = rw append_assoc at (more (omega (arith, eqb-false i (length earlier) e, length-append earlier (r ∷ []))) (rw append_assoc u))
 

@@ -6,26 +6,6 @@ use native.Mathlib.Omega.{arith}
 use lib.Dec.{T, eqb}
 use borrow.Author.Tests.{eqb-true, ne_eqb}
 
-pub true_of : (b : Bool) → T b → b ≡ true
-true_of true t = refl
-true_of false t = absurd t
-
-pub false_of : (b : Bool) → T (not b) → b ≡ false
-false_of true t = absurd t
-false_of false t = refl
-
-pub left_of : (a b : Bool) → T (a && b) → T a
-left_of true b t = tt
-left_of false b t = absurd t
-
-pub right_of : (a b : Bool) → T (a && b) → T b
-right_of true b t = t
-right_of false b t = absurd t
-
-pub both : (a b : Bool) → T a → T b → T (a && b)
-both true b p q = q
-both false b p q = absurd p
-
 -- a number is k, or the test says that it is not
 pub either : {G : Type 0} (n k : ℕ) → (n ≡ k → G) → (eqb n k ≡ false → G) → G
 either {G} n k f g = by (eqb n k) refl

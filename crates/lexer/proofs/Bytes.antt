@@ -11,7 +11,7 @@ use lib.Dec.{T, eqb, leb, leb→le}
 use borrow.Author.Tests.{eqb-true}
 use Rattle.format.specs.Byte as B
 use Rattle.format.specs.Byte.{Class, Entry, ◌is◌, specials, class_in, class_of, class_code, has_class}
-use Rattle.format.proofs.Tests.{left_of, right_of}
+use lib.Ieee.Fits.{and_l, and_r}
 
 pub byte_at : (message : List ℕ) (i : ℕ) → i < length message → drop i message ≡ get_or message i 0 ∷ drop (i + 1) message
 byte_at message i h = rw (add-one, drop-cons message i 0)
@@ -34,14 +34,14 @@ digits_within ((k is c) ∷ es) = entry_within k c && digits_within es
 within : (es : List Entry) (b : ℕ) → T (digits_within es) → eqb (class_code (class_in es b)) (class_code B.digit) ≡ true → T (in_digits b)
 unfolding digits_within class_in
 within [] b t d = absurd (subst T (sym d) tt)
-within ((k is c) ∷ es) b t d = cases (eqb k b) refl (within es b (right_of (entry_within k c) (digits_within es) t))
+within ((k is c) ∷ es) b t d = cases (eqb k b) refl (within es b (and_r (entry_within k c) (digits_within es) t))
   where
     cases : (q : Bool) → eqb k b ≡ q → (eqb (class_code (class_in es b)) (class_code B.digit) ≡ true → T (in_digits b)) → T (in_digits b)
-    cases true e more = rw (← eqb-true k b e) (rw (rw (e, class_in) at d) at (left_of (entry_within k c) (digits_within es) t))
+    cases true e more = rw (← eqb-true k b e) (rw (rw (e, class_in) at d) at (and_l (entry_within k c) (digits_within es) t))
     cases false e more = more (rw (e, class_in) at d)
 
 pub digit_range : (b : ℕ) → has_class B.digit b ≡ true → (48 ≤ b) × (b ≤ 57)
 unfolding has_class class_of digits_within specials
 digit_range b d =
     let t = within specials b tt d in
-    (leb→le 48 b (left_of (leb 48 b) (leb b 57) t), leb→le b 57 (right_of (leb 48 b) (leb b 57) t))
+    (leb→le 48 b (and_l (leb 48 b) (leb b 57) t), leb→le b 57 (and_r (leb 48 b) (leb b 57) t))

@@ -14,7 +14,7 @@ use Rattle.format.specs.Sound.{count_fits, root_among, sound_rows, sound_table}
 use Rattle.format.specs.Text.{plain}
 use Rattle.format.specs.Answer as A
 use Rattle.format.specs.Answer.{over_bound, zeroed, write_text, write_answer}
-use Rattle.format.proofs.Tests.{left_of, right_of}
+use lib.Ieee.Fits.{and_l, and_r}
 use Rattle.format.specs.declared.refusal.Refusal.{Refusal}
 use Rattle.format.specs.declared.refusal.Refusal.TheVariants.{OverBound, ShortTable, TooLong, Unsound}
 use Rattle.text.specs.Answers.{written_as, write_rows}
@@ -23,11 +23,11 @@ use Rattle.text.specs.Answers.{written_as, write_rows}
 module _ (words : List ℕ) (used root : ℕ) (claims : T (count_fits words used && root_among used root)) where
   pub count_room : used ≤ row_room words
   unfolding count_fits
-  count_room = leb→le used (row_room words) (left_of (count_fits words used) (root_among used root) claims)
+  count_room = leb→le used (row_room words) (and_l (count_fits words used) (root_among used root) claims)
 
   pub root_inside : root < used
   unfolding root_among
-  root_inside = ltb→lt root used (right_of (count_fits words used) (root_among used root) claims)
+  root_inside = ltb→lt root used (and_r (count_fits words used) (root_among used root) claims)
 
 either_way : (b : Bool) (x y : A.Written) → cond b x y ≡ cond (not b) y x
 either_way true x y = refl

@@ -21,7 +21,7 @@ use Rattle.format.specs.declared.refusal.Refused.{Refused}
 use Rattle.format.proofs.Decoded.{accepts}
 use Rattle.format.proofs.Limits.{rows_fit}
 use Rattle.format.proofs.Sizes.{plain_size}
-use Rattle.format.proofs.Tests.{true_of}
+use lib.Ieee.Bits.{is_true}
 use Rattle.decoder.specs.Answers.{decoded_as}
 use Rattle.decoder.specs.declared.Accepted.{Accepted}
 use Rattle.text.specs.Answers.{written_as}
@@ -87,7 +87,7 @@ module _ (message : List ℕ) (t : Tables) (d : Result Accepted Refused) (u : Ta
     unfolding write_answer
     answer output =
         let bound = (accepts message t (number message t u a acceptance)).in_bound in
-        let sound = true_of (sound_table message u.rows a.used a.root.0) ((demand2 message t (Ok a) u acceptance).sound a refl) in
+        let sound = is_true (sound_table message u.rows a.used a.root.0) ((demand2 message t (Ok a) u acceptance).sound a refl) in
         rw (bound, le-ltb (length scratch) a.used enough, sound) refl
 
     pub accepted-line : (output : List ℕ) (w : Result ℕ Refusal) (scratch' output' : List ℕ) → written_as w scratch' output' ≡ write_answer message u.rows a.used a.root.0 scratch output

@@ -12,7 +12,7 @@ use Rattle.std.specs.Int.Bits.{bit_or}
 use Rattle.std.specs.List.{fold}
 use Rattle.std.proofs.lemmas.Nat.{or_shifted, pow_pos}
 use Rattle.format.specs.Word.{Order, big, little, join_after, joined}
-use Rattle.format.proofs.Tests.{left_of, right_of, both}
+use lib.Ieee.Fits.{and_i, and_l, and_r}
 
 -- bytes in the order in which they are joined
 abbrev pub ordered : Order → List ℕ → List ℕ
@@ -30,7 +30,7 @@ length-ordered little bytes = length-reverse bytes
 
 onto_bytes : (l rest : List ℕ) → T (are_bytes l) → T (are_bytes rest) → T (are_bytes (reverse_aux l rest))
 onto_bytes [] rest p q = q
-onto_bytes (x ∷ l) rest p q = onto_bytes l (x ∷ rest) (right_of (ltb x 256) (are_bytes l) p) (both (ltb x 256) (are_bytes rest) (left_of (ltb x 256) (are_bytes l) p) q)
+onto_bytes (x ∷ l) rest p q = onto_bytes l (x ∷ rest) (and_r (ltb x 256) (are_bytes l) p) (and_i (ltb x 256) (are_bytes rest) (and_l (ltb x 256) (are_bytes l) p) q)
 
 -- in either order they are bytes
 ordered-bytes : (o : Order) (bytes : List ℕ) → T (are_bytes bytes) → T (are_bytes (ordered o bytes))
@@ -44,9 +44,9 @@ join_same [] [] g h l p q e = (e, refl)
 join_same [] (b ∷ y) g h l p q e = absurd (omega arith)
 join_same (a ∷ x) [] g h l p q e = absurd (omega arith)
 join_same (a ∷ x) (b ∷ y) g h l p q e =
-    let u : a < 256 = ltb→lt a 256 (left_of (ltb a 256) (are_bytes x) p) in
-    let v : b < 256 = ltb→lt b 256 (left_of (ltb b 256) (are_bytes y) q) in
-    let s = join_same x y (g * 256 + a) (h * 256 + b) (omega arith) (right_of (ltb a 256) (are_bytes x) p) (right_of (ltb b 256) (are_bytes y) q) e in
+    let u : a < 256 = ltb→lt a 256 (and_l (ltb a 256) (are_bytes x) p) in
+    let v : b < 256 = ltb→lt b 256 (and_l (ltb b 256) (are_bytes y) q) in
+    let s = join_same x y (g * 256 + a) (h * 256 + b) (omega arith) (and_r (ltb a 256) (are_bytes x) p) (and_r (ltb b 256) (are_bytes y) q) e in
     let t : g * 256 + a ≡ h * 256 + b = s.0 in
     let c : a ≡ b = omega arith in
     (omega arith, ap₂ (λ (d : ℕ) (r : List ℕ). d ∷ r) c s.1)
@@ -63,10 +63,10 @@ join_below : (high : ℕ) (bytes : List ℕ) → T (are_bytes bytes) → join_af
 unfolding join_after
 join_below high [] p = omega arith
 join_below high (b ∷ bytes) p =
-    let u : b < 256 = ltb→lt b 256 (left_of (ltb b 256) (are_bytes bytes) p) in
+    let u : b < 256 = ltb→lt b 256 (and_l (ltb b 256) (are_bytes bytes) p) in
     let wide : high * 256 + b + 1 ≤ (high + 1) * 256 = omega arith in
     let widened = mul-le-mul_right (2 ^ (8 * length bytes)) wide in
-    rw (byte_more (length bytes), ← mul_assoc (high + 1) 256 (2 ^ (8 * length bytes))) (lt_of_lt_of_le (join_below (high * 256 + b) bytes (right_of (ltb b 256) (are_bytes bytes) p)) widened)
+    rw (byte_more (length bytes), ← mul_assoc (high + 1) 256 (2 ^ (8 * length bytes))) (lt_of_lt_of_le (join_below (high * 256 + b) bytes (and_r (ltb b 256) (are_bytes bytes) p)) widened)
 
 -- every width: so many bytes, joined in either order, are a number of eight times as many bits
 pub joined-below : (o : Order) (bytes : List ℕ) → T (are_bytes bytes) → joined o bytes < 2 ^ (8 * length bytes)
@@ -77,7 +77,7 @@ joined-below o bytes p =
 -- elements of a slice of bytes
 pub bytes_of : (l : List ℕ) → ((i : ℕ) → i < length l → get_or l i 0 < 256) → T (are_bytes l)
 bytes_of [] h = tt
-bytes_of (x ∷ l) h = both (ltb x 256) (are_bytes l) (rw (lt-ltb x 256 (h 0 (omega arith))) tt) (bytes_of l (λ i u. h (suc i) (omega arith)))
+bytes_of (x ∷ l) h = and_i (ltb x 256) (are_bytes l) (rw (lt-ltb x 256 (h 0 (omega arith))) tt) (bytes_of l (λ i u. h (suc i) (omega arith)))
 
 -- the machine's way to join a byte to those before it
 abbrev pub shifted : ℕ → ℕ → ℕ
@@ -88,13 +88,13 @@ fold-shifted : (high : ℕ) (bytes : List ℕ) → T (are_bytes bytes) → (high
 unfolding join_after
 fold-shifted high [] p room = refl
 fold-shifted high (b ∷ bytes) p room =
-    let u : b < 2 ^ 8 = ltb→lt b 256 (left_of (ltb b 256) (are_bytes bytes) p) in
+    let u : b < 2 ^ 8 = ltb→lt b 256 (and_l (ltb b 256) (are_bytes bytes) p) in
     let n : ℕ = 2 ^ (8 * length bytes) in
     let more : (high * 256 + b + 1) * n ≤ ((high + 1) * 256) * n = mul-le-mul_right n (omega arith) in
     let all : ((high + 1) * 256) * n ≤ 2 ^ 64 = rw (byte_more (length bytes), ← mul_assoc (high + 1) 256 n) at room in
     let one : (high * 256 + b + 1) * 1 ≤ (high * 256 + b + 1) * n = mul-le-mul_left (high * 256 + b + 1) (pow_pos (8 * length bytes)) in
     let step : shifted high b ≡ high * 256 + b = rw (mod-eq_of_lt {n = high * 2 ^ 8} {m = 2 ^ 64} (omega arith)) (or_shifted high 8 b u) in
-    rw step (fold-shifted (high * 256 + b) bytes (right_of (ltb b 256) (are_bytes bytes) p) (omega arith))
+    rw step (fold-shifted (high * 256 + b) bytes (and_r (ltb b 256) (are_bytes bytes) p) (omega arith))
 
 -- bytes joined by the machine in an order
 pub shifted-ordered : (o : Order) (bytes : List ℕ) → ((i : ℕ) → get_or bytes i 0 < 256) → 8 * length bytes ≤ 64 → fold shifted 0 (ordered o bytes) ≡ joined o bytes

@@ -22,7 +22,7 @@ use Rattle.format.specs.Byte as B
 use Rattle.format.specs.Word as F
 use Rattle.format.specs.Word.{format, formats, format_in, join_after, joined, big}
 use Rattle.format.proofs.SameBytes.{same_bytes_lem, same_refl}
-use Rattle.format.proofs.Tests.{left_of, right_of}
+use lib.Ieee.Fits.{and_l, and_r}
 use Rattle.std.specs.declared.option.Option.{Option}
 use Rattle.std.specs.declared.option.Option.TheVariants.{Some, None}
 use Rattle.words.specs.declared.formats.Format.{Format}
@@ -89,8 +89,8 @@ find-follows (e ∷ es) [] m s name q = cc
 find-follows (e ∷ es) (f ∷ fs) m s name q =
     let here : entry e ≡ entry_of f = cc in
     let rest : map entry es ≡ map entry_of fs = cc in
-    let test = name_tested e f here (left_of (are_bytes f.name) (eqb (length f.name) 5 || eqb (length f.name) 2) (left_of (spelt f) (list_all spelt fs) s)) name q in
-    rw test (by (same_bytes f.name name) (ap (λ (x : Entry). x.says) here) (find-follows es fs rest (right_of (spelt f) (list_all spelt fs) s) name q))
+    let test = name_tested e f here (and_l (are_bytes f.name) (eqb (length f.name) 5 || eqb (length f.name) 2) (and_l (spelt f) (list_all spelt fs) s)) name q in
+    rw test (by (same_bytes f.name name) (ap (λ (x : Entry). x.says) here) (find-follows es fs rest (and_r (spelt f) (list_all spelt fs) s) name q))
   where
     by : (b : Bool) → format_of e.layout ≡ (entry_of f).says
         → said (option_map (λ e. e.layout) (find (λ e. eqb e.name (name_number name)) es)) ≡ found (format_in fs name)
@@ -103,8 +103,8 @@ other-passed : (fs : List F.Format) → T (list_all spelt fs) → (name : List �
 unfolding format_in
 other-passed [] s name h g = refl
 other-passed (f ∷ fs) s name h g =
-    by (same_bytes f.name name) refl (right_of (are_bytes f.name) (eqb (length f.name) 5 || eqb (length f.name) 2) (left_of (spelt f) (list_all spelt fs) s))
-    (other-passed fs (right_of (spelt f) (list_all spelt fs) s) name h g)
+    by (same_bytes f.name name) refl (and_r (are_bytes f.name) (eqb (length f.name) 5 || eqb (length f.name) 2) (and_l (spelt f) (list_all spelt fs) s))
+    (other-passed fs (and_r (spelt f) (list_all spelt fs) s) name h g)
   where
     by : (b : Bool) → same_bytes f.name name ≡ b → T (eqb (length f.name) 5 || eqb (length f.name) 2) → format_in fs name ≡ none
         → elim b as (λ _. M.Option F.Format) [ true ↦ some f | false ↦ format_in fs name ] ≡ none
