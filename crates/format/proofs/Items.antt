@@ -56,16 +56,8 @@ scan-more quote before after j c r f (L.closed_at k) h = record {
 scan-ok : (quote : ℕ) (escaped : Bool) (j : ℕ) (r : List ℕ) → ScanOk quote escaped j r (scan quote escaped j r)
 unfolding scan spelled
 scan-ok quote escaped j [] = tt
-scan-ok quote true j (c ∷ r) = cases (eqb c (code "\\") || eqb c quote) refl (scan-ok quote false (suc j) r)
-  where
-    cases : (b : Bool) → (eqb c (code "\\") || eqb c quote) ≡ b → ScanOk quote false (suc j) r (scan quote false (suc j) r) → ScanOk quote true j (c ∷ r) (scan quote true j (c ∷ r))
-    cases true e h = rw (e, scan) (scan-more quote true false j c r (λ b t. rw e t) (scan quote false (suc j) r) h)
-    cases false e h = rw (e, scan) (omega arith)
-scan-ok quote false j (c ∷ r) = cases (eqb c quote) refl (scan-ok quote (eqb c (code "\\")) (suc j) r)
-  where
-    cases : (b : Bool) → eqb c quote ≡ b → ScanOk quote (eqb c (code "\\")) (suc j) r (scan quote (eqb c (code "\\")) (suc j) r) → ScanOk quote false j (c ∷ r) (scan quote false j (c ∷ r))
-    cases true e h = rw (e, scan) (record { far = 0; adds = omega arith; inside = omega arith; spells = tt })
-    cases false e h = rw (e, scan) (scan-more quote false (eqb c (code "\\")) j c r (λ b t. rw e t) (scan quote (eqb c (code "\\")) (suc j) r) h)
+scan-ok quote true j (c ∷ r) = grind (arith, scan-ok quote false (suc j) r, scan-more quote true false j c r)
+scan-ok quote false j (c ∷ r) = grind (arith, scan-ok quote (eqb c (code "\\")) (suc j) r, scan-more quote false (eqb c (code "\\")) j c r)
 
 abbrev DigitsOk : ℕ → List ℕ → Digits → Type 0
 DigitsOk j r L.unfinished = Unit {0}
@@ -78,11 +70,7 @@ digits_more j c r (L.value v k) h = omega arith
 digits-ok : (v j : ℕ) (r : List ℕ) → DigitsOk j r (digits v j r)
 unfolding digits
 digits-ok v j [] = tt
-digits-ok v j (c ∷ r) = cases (has_class B.digit c) refl (digits-ok (v * 10 + (c - code "0")) (suc j) r)
-  where
-    cases : (b : Bool) → has_class B.digit c ≡ b → DigitsOk (suc j) r (digits (v * 10 + (c - code "0")) (suc j) r) → DigitsOk j (c ∷ r) (digits v j (c ∷ r))
-    cases true e h = rw (e, digits) (digits_more j c r (digits (v * 10 + (c - code "0")) (suc j) r) h)
-    cases false e h = rw (e, digits) (omega arith)
+digits-ok v j (c ∷ r) = grind (arith, digits-ok (v * 10 + (c - code "0")) (suc j) r)
 
 cond-ok : (r : List ℕ) (b : Bool) (x y : Item) → (T b → ItemOk r x) → ItemOk r y → ItemOk r (cond b x y)
 cond-ok r true x y p q = p tt

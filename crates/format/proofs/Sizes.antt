@@ -48,12 +48,7 @@ unfoldable mutual
 digits-size : (f n : ℕ) (a : List ℕ) → length (digits_on f n a) ≡ digit_count f n + length a
 unfolding digits_on digit_count
 digits-size zero n a = omega arith
-digits-size (suc f) n a = cases (ltb n 10) refl (digits-size f (n / 10) ((code "0" + n % 10) ∷ a))
-  where
-    cases : (c : Bool) → ltb n 10 ≡ c → length (digits_on f (n / 10) ((code "0" + n % 10) ∷ a)) ≡ digit_count f (n / 10) + suc (length a)
-        → length (digits_on (suc f) n a) ≡ digit_count (suc f) n + length a
-    cases true e h = rw (e, digits_on, digit_count) (omega arith)
-    cases false e h = rw (e, digits_on, digit_count) (omega arith)
+digits-size (suc f) n a = grind (arith, digits-size f (n / 10) ((code "0" + n % 10) ∷ a))
 
 natural-size : (n : ℕ) (a : List ℕ) → length (natural_on n a) ≡ natural_size n + length a
 unfolding natural_on natural_size
@@ -92,12 +87,8 @@ plain_size t = text-size t (code "$" ∷ [])
 digits-bound : (f n k : ℕ) → n < 10 ^ suc k → digit_count f n ≤ suc k
 unfolding digit_count
 digits-bound zero n k h = omega arith
-digits-bound (suc f) n k h = cases (ltb n 10) refl k h (digits-bound f (n / 10))
-  where
-    cases : (c : Bool) → ltb n 10 ≡ c → (k : ℕ) → n < 10 ^ suc k → ((j : ℕ) → n / 10 < 10 ^ suc j → digit_count f (n / 10) ≤ suc j) → digit_count (suc f) n ≤ suc k
-    cases true e k h next = rw (e, digit_count) (omega arith)
-    cases false e zero h next = absurd (omega (arith, ltb-false n 10 e))
-    cases false e (suc j) h next = rw (e, digit_count) (omega (arith, next j (omega arith)))
+digits-bound (suc f) n zero h = grind (arith, ltb-false n 10)
+digits-bound (suc f) n (suc j) h = grind (arith, digits-bound f (n / 10) j)
 
 -- a number below 10 ^ k has at most k digits
 pub natural-bound : (n k : ℕ) → n < 10 ^ suc k → length (natural_on n []) ≤ suc k
@@ -113,12 +104,7 @@ integer-text (negsuc n) h = omega (arith, decimal_size_lem (negsuc n) (code " " 
 digits_onto : (f n : ℕ) (a b : List ℕ) → digits_on f n (a ++ b) ≡ digits_on f n a ++ b
 unfolding digits_on
 digits_onto zero n a b = refl
-digits_onto (suc f) n a b = cases (ltb n 10) refl (digits_onto f (n / 10) ((code "0" + n % 10) ∷ a) b)
-  where
-    cases : (c : Bool) → ltb n 10 ≡ c → digits_on f (n / 10) ((code "0" + n % 10) ∷ a ++ b) ≡ digits_on f (n / 10) ((code "0" + n % 10) ∷ a) ++ b
-        → digits_on (suc f) n (a ++ b) ≡ digits_on (suc f) n a ++ b
-    cases true e h = rw (e, digits_on)
-    cases false e h = rw (e, digits_on) h
+digits_onto (suc f) n a b = grind (arith, digits_onto f (n / 10) ((code "0" + n % 10) ∷ a) b)
 
 pub natural_onto : (n : ℕ) (a b : List ℕ) → natural_on n (a ++ b) ≡ natural_on n a ++ b
 unfolding natural_on

@@ -44,22 +44,12 @@ FarDigits n (L.value v k) = n ≤ k
 digits-far : (n v j : ℕ) (r : List ℕ) → n ≤ j → FarDigits n (digits v j r)
 unfolding digits
 digits-far n v j [] l = tt
-digits-far n v j (c ∷ r) l = cases (has_class B.digit c) refl (digits-far n (v * 10 + (c - code "0")) (suc j) r (omega arith))
-  where
-    cases : (b : Bool) → has_class B.digit c ≡ b → FarDigits n (digits (v * 10 + (c - code "0")) (suc j) r) → FarDigits n (digits v j (c ∷ r))
-    cases true e h = rw (e, digits) h
-    cases false e h = rw (e, digits) l
+digits-far n v j (c ∷ r) l = grind (arith, digits-far n (v * 10 + (c - code "0")) (suc j) r)
 
 digits-agree : (n v j : ℕ) (x z : List ℕ) → n ≡ j + length x → Agree L.unfinished (FarDigits n) (digits v j x) (digits v j (x ++ z))
 unfolding digits
 digits-agree n v j [] z e = ends (digits-far n v j z (omega arith))
-digits-agree n v j (c ∷ x) z e = cases (has_class B.digit c) refl (digits-agree n (v * 10 + (c - code "0")) (suc j) x z (omega arith))
-  where
-    cases : (b : Bool) → has_class B.digit c ≡ b
-        → Agree L.unfinished (FarDigits n) (digits (v * 10 + (c - code "0")) (suc j) x) (digits (v * 10 + (c - code "0")) (suc j) (x ++ z))
-        → Agree L.unfinished (FarDigits n) (digits v j (c ∷ x)) (digits v j (c ∷ x ++ z))
-    cases true e h = rw (e, digits) h
-    cases false e h = rw (e, digits) same
+digits-agree n v j (c ∷ x) z e = grind (arith, same, digits-agree n (v * 10 + (c - code "0")) (suc j) x z)
 
 -- a scan that meets its quote after n bytes
 abbrev FarScan : ℕ → Scan → Type 0
@@ -70,32 +60,14 @@ FarScan n (L.closed_at k) = n ≤ k
 scan-far : (n quote : ℕ) (escaped : Bool) (j : ℕ) (r : List ℕ) → n ≤ j → FarScan n (scan quote escaped j r)
 unfolding scan
 scan-far n quote escaped j [] l = tt
-scan-far n quote true j (c ∷ r) l = cases (eqb c (code "\\") || eqb c quote) refl (scan-far n quote false (suc j) r (omega arith))
-  where
-    cases : (b : Bool) → (eqb c (code "\\") || eqb c quote) ≡ b → FarScan n (scan quote false (suc j) r) → FarScan n (scan quote true j (c ∷ r))
-    cases true e h = rw (e, scan) h
-    cases false e h = rw (e, scan) tt
-scan-far n quote false j (c ∷ r) l = cases (eqb c quote) refl (scan-far n quote (eqb c (code "\\")) (suc j) r (omega arith))
-  where
-    cases : (b : Bool) → eqb c quote ≡ b → FarScan n (scan quote (eqb c (code "\\")) (suc j) r) → FarScan n (scan quote false j (c ∷ r))
-    cases true e h = rw (e, scan) l
-    cases false e h = rw (e, scan) h
+scan-far n quote true j (c ∷ r) l = grind (arith, scan-far n quote false (suc j) r)
+scan-far n quote false j (c ∷ r) l = grind (arith, scan-far n quote (eqb c (code "\\")) (suc j) r)
 
 scan-agree : (n quote : ℕ) (escaped : Bool) (j : ℕ) (x z : List ℕ) → n ≡ j + length x → Agree Scan.ended (FarScan n) (scan quote escaped j x) (scan quote escaped j (x ++ z))
 unfolding scan
 scan-agree n quote escaped j [] z e = ends (scan-far n quote escaped j z (omega arith))
-scan-agree n quote true j (c ∷ x) z e = cases (eqb c (code "\\") || eqb c quote) refl (scan-agree n quote false (suc j) x z (omega arith))
-  where
-    cases : (b : Bool) → (eqb c (code "\\") || eqb c quote) ≡ b → Agree Scan.ended (FarScan n) (scan quote false (suc j) x) (scan quote false (suc j) (x ++ z))
-        → Agree Scan.ended (FarScan n) (scan quote true j (c ∷ x)) (scan quote true j (c ∷ x ++ z))
-    cases true e h = rw (e, scan) h
-    cases false e h = rw (e, scan) same
-scan-agree n quote false j (c ∷ x) z e = cases (eqb c quote) refl (scan-agree n quote (eqb c (code "\\")) (suc j) x z (omega arith))
-  where
-    cases : (b : Bool) → eqb c quote ≡ b → Agree Scan.ended (FarScan n) (scan quote (eqb c (code "\\")) (suc j) x) (scan quote (eqb c (code "\\")) (suc j) (x ++ z))
-        → Agree Scan.ended (FarScan n) (scan quote false j (c ∷ x)) (scan quote false j (c ∷ x ++ z))
-    cases true e h = rw (e, scan) same
-    cases false e h = rw (e, scan) h
+scan-agree n quote true j (c ∷ x) z e = grind (arith, same, scan-agree n quote false (suc j) x z)
+scan-agree n quote false j (c ∷ x) z e = grind (arith, same, scan-agree n quote (eqb c (code "\\")) (suc j) x z)
 
 -- the items that x ++ z can show where x is cut off inside the item: n is the length of x
 data FarItem (n : ℕ) : Item → Type 0 where
