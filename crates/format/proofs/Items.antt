@@ -78,8 +78,7 @@ cond-ok r false x y p q = q
 
 integer-ok : (sign : ℕ → ℤ) (r : List ℕ) (d : Digits) → DigitsOk 0 r d → ItemOk r (integer_of sign d)
 unfolding integer_of
-integer-ok sign r L.unfinished h = tt
-integer-ok sign r (L.value v k) h = cond-ok r (in_range (sign v)) (L.integer_item (sign v) k) L.too_large (λ t. (t, omega arith)) tt
+integer-ok sign r d h = grind arith
 
 pub quoted-ok : (quote : ℕ) (item : ℕ → Item) (r : List ℕ) → ((k : ℕ) → Quoted quote r k → ItemOk r (item k)) → ItemOk r (quoted quote item r)
 unfolding quoted quoted_item
@@ -93,16 +92,14 @@ quoted-ok quote item r h = closes (scan quote false 0 r) (scan-ok quote false 0 
         rw e (h g.far (record { spells = g.spells; inside = g.inside }))
 
 negative_ok : (r : List ℕ) → ItemOk r (negative r)
-unfolding negative
+unfolding negative integer_of
 negative_ok [] = tt
-negative_ok (c ∷ r) =
-    let d = digits (c - code "0") 1 r in
-    cond-ok (c ∷ r) (has_class B.digit c) _ (L.stray 1) (λ t. integer-ok _ (c ∷ r) d (digits_more 0 c r d (digits-ok (c - code "0") 1 r))) (omega arith)
+negative_ok (c ∷ r) = grind (arith, digits-ok (c - code "0") 1 r)
 
 store_ok : (r : List ℕ) → ItemOk r (store r)
 unfolding store
 store_ok [] = tt
-store_ok (c ∷ r) = cond-ok (c ∷ r) (has_class B.register c) (L.store_item c) (L.stray 1) (λ t. omega arith) (omega arith)
+store_ok (c ∷ r) = grind arith
 
 item_ok : (k : Class) (c : ℕ) (r : List ℕ) → ItemOk r (item_of k c r)
 unfolding item_of

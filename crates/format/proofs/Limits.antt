@@ -25,13 +25,6 @@ module _ (𝒱 : Values) (lim : Limits) where
     accepts : (k : ℕ) (res : Result 𝒱) → Under (accepted k res) (accepted k res.root)
     short : (n p : ℕ) {b : Outcome 𝒱.Value} → NoRoom n → Under (refused n p) b
 
-  -- a test of room: it refuses, or the step goes on where it fails
-  follow-cond : (P : Outcome (Result 𝒱) → Type 0) (c : Bool) (n p : ℕ) (s : Step 𝒱) (next : ℕ → ℕ → Machine 𝒱 → Outcome (Result 𝒱)) (end : 𝒱.Value → Outcome (Result 𝒱))
-      → P (refused n p) → (c ≡ false → P (M.follow 𝒱 s next end)) → P (M.follow 𝒱 (cond c (refuse n p) s) next end)
-  unfolding M.follow
-  follow-cond P true n p s next end r f = r
-  follow-cond P false n p s next end r f = f refl
-
   follow-under : (at used : ℕ) (next : ℕ → ℕ → Machine 𝒱 → Outcome (Result 𝒱)) (end : 𝒱.Value → Outcome (Result 𝒱))
       (next' : ℕ → ℕ → Machine 𝒱 → Outcome 𝒱.Value) (end' : 𝒱.Value → Outcome 𝒱.Value)
       → ((k w : ℕ) (m : Machine 𝒱) → Under (next k w m) (next' k w m)) → ((v : 𝒱.Value) → Under (end v) (end' v))
@@ -39,12 +32,7 @@ module _ (𝒱 : Values) (lim : Limits) where
   unfolding M.follow M.bounded
   follow-under at used next end next' end' f g (refuse n p) = refuses n p
   follow-under at used next end next' end' f g (finish v) = g v
-  follow-under at used next end next' end' f g (go k w m) =
-      let b : Outcome 𝒱.Value = next' k w m in
-      let P : Outcome (Result 𝒱) → Type 0 = λ a. Under a b in
-      follow-cond P (ltb lim.rows (used + w)) 12 at _ next end (short 12 at (omega arith)) (λ e.
-      follow-cond P (ltb lim.stack (length m.stack)) 13 at _ next end (short 13 at (omega arith)) (λ e'.
-      follow-cond P (ltb lim.marks (length m.marks)) 14 at (go k w m) next end (short 14 at (omega arith)) (λ e''. f k w m)))
+  follow-under at used next end next' end' f g (go k w m) = grind (arith, short 12 at, short 13 at, short 14 at, f k w m)
 
   under-from : (s : List ℕ) (skip at used : ℕ) (m : Machine 𝒱) → Under (M.run_from 𝒱 lim s skip at used m) (M.run_free_from 𝒱 s skip at m)
   unfolding M.run_from M.run_free_from
@@ -121,10 +109,7 @@ module _ (𝒱 : Values) (lim : Limits) where
   unfolding M.follow M.bounded
   follow-holds at used next end f g (refuse n p) = tt
   follow-holds at used next end f g (finish v) = g v
-  follow-holds at used next end f g (go k w m) =
-      follow-cond Holds (ltb lim.rows (used + w)) 12 at _ next end tt (λ e.
-      follow-cond Holds (ltb lim.stack (length m.stack)) 13 at _ next end tt (λ e'.
-      follow-cond Holds (ltb lim.marks (length m.marks)) 14 at (go k w m) next end tt (λ e''. f k w m (ltb-false lim.rows (used + w) e))))
+  follow-holds at used next end f g (go k w m) = grind (arith, f k w m, ltb-false lim.rows (used + w))
 
   holds_rows : (s : List ℕ) (skip at used : ℕ) (m : Machine 𝒱) → used ≤ lim.rows → Holds (M.run_from 𝒱 lim s skip at used m)
   unfolding M.run_from

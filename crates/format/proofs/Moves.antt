@@ -149,17 +149,11 @@ module _ (𝒱 : Values) (lim : Limits) (Inv : ℕ → List ℕ → ℕ → Mach
   AtEnd (accepted k res) = End k res
 
   module _ (at : ℕ) (r : List ℕ) (used : ℕ) (m : Machine 𝒱) where
-    next-unless : (c : Bool) (n p : ℕ) (s : Step 𝒱) → MachineNumber n → Next at r used m s → Next at r used m (cond c (refuse n p) s)
-    next-unless true n p s g h = g
-    next-unless false n p s g h = h
-
     next-bounded : (s : Step 𝒱) → Next at r used m s → Next at r used m (M.bounded 𝒱 lim at used s)
     unfolding M.bounded
     next-bounded (refuse n p) h = h
     next-bounded (finish v) h = h
-    next-bounded (go k w m') h =
-        next-unless (ltb lim.rows (used + w)) 12 at _ (omega arith)
-        (next-unless (ltb lim.stack (length m'.stack)) 13 at _ (omega arith) (next-unless (ltb lim.marks (length m'.marks)) 14 at (go k w m') (omega arith) h))
+    next-bounded (go k w m') h = grind arith
 
     next-follow : (next : ℕ → ℕ → Machine 𝒱 → Outcome (Result 𝒱)) (end : 𝒱.Value → Outcome (Result 𝒱))
         → ((k w : ℕ) (m' : Machine 𝒱) → Inv (suc at) r (used + w) m' → AtEnd (next k w m'))

@@ -22,17 +22,11 @@ module _ (𝒱 : Values) (lim : Limits) where
   Within end (accepted k res) = k ≤ end
 
   -- 12, 13 and 14 are at the item's first byte
-  inside-unless : (at : ℕ) (r : List ℕ) (m : Machine 𝒱) (c : Bool) (n : ℕ) (s : Step 𝒱) → Inside 𝒱 at r m s → Inside 𝒱 at r m (cond c (refuse n at) s)
-  inside-unless at r m true n s h = omega arith
-  inside-unless at r m false n s h = h
-
   inside-bounded : (at : ℕ) (r : List ℕ) (used : ℕ) (m : Machine 𝒱) (s : Step 𝒱) → Inside 𝒱 at r m s → Inside 𝒱 at r m (M.bounded 𝒱 lim at used s)
   unfolding M.bounded
   inside-bounded at r used m (refuse n p) h = h
   inside-bounded at r used m (finish v) h = h
-  inside-bounded at r used m (go k w m') h =
-      inside-unless at r m (ltb lim.rows (used + w)) 12 _
-      (inside-unless at r m (ltb lim.stack (length m'.stack)) 13 _ (inside-unless at r m (ltb lim.marks (length m'.marks)) 14 (go k w m') h))
+  inside-bounded at r used m (go k w m') h = grind arith
 
   within-follow : (at : ℕ) (r : List ℕ) (m : Machine 𝒱) (end : ℕ) (next : ℕ → ℕ → Machine 𝒱 → Outcome (Result 𝒱)) (last : 𝒱.Value → Outcome (Result 𝒱))
       → suc at + length r ≤ end → ((k w : ℕ) (m' : Machine 𝒱) → Within end (next k w m')) → ((v : 𝒱.Value) → Within end (last v))
@@ -62,12 +56,4 @@ place_of-result t end (accepted k res) h = h
 -- the place that `decode` answers fits in a word
 pub place-bound : (message : List ℕ) (t : Tables) → (decode_answer message t).place ≤ message_bound
 unfolding decode_answer over_bound decode_refusal
-place-bound message t = cases (ltb message_bound (length message)) (ltb (length t.registers) register_words) refl
-  where
-    cases : (over short : Bool) → ltb message_bound (length message) ≡ over
-        → (cond over (decode_refusal 1 0 t) (cond short (decode_refusal 2 0 t) (decode_result t (run row_values (limits_of t) message)))).place ≤ message_bound
-    cases true short e = omega arith
-    cases false true e = omega arith
-    cases false false e =
-        let most : length message ≤ message_bound = ltb-false message_bound (length message) e in
-        omega (arith, place_of-result t (length message) (run row_values (limits_of t) message) (within-message row_values (limits_of t) message))
+place-bound message t = grind (arith, ltb-false message_bound (length message), place_of-result t (length message) (run row_values (limits_of t) message) (within-message row_values (limits_of t) message))

@@ -25,6 +25,8 @@ use lib.Ieee.Bits.{is_false, is_true}
 use lib.Ieee.Fits.{and_l, and_r}
 use Rattle.format.proofs.Limits.{Under, NoRoom, refuses, accepts, short, under-limits}
 use Rattle.std.specs.List.{range_with_len}
+use Rattle.std.proofs.lemmas.Bool.{cases_Bool}
+use mathlib.Core.Logic.{inl, inr}
 use Rattle.format.proofs.Table.{entry}
 use Rattle.format.proofs.FreeRun.{free-go, free-skip, pop_ok, close_ok}
 
@@ -82,12 +84,10 @@ one_more n rest text w = record {
 written : (f n : ℕ) (rest : List ℕ) → n ≤ f → Written n rest (digits_on f n rest)
 unfolding digits_on
 written zero n rest h = one_digit n rest (omega arith)
-written (suc f) n rest h = cases (ltb n 10) refl (written f (n / 10) ((code "0" + n % 10) ∷ rest))
-  where
-    cases : (b : Bool) → ltb n 10 ≡ b → (n / 10 ≤ f → Written (n / 10) ((code "0" + n % 10) ∷ rest) (digits_on f (n / 10) ((code "0" + n % 10) ∷ rest)))
-        → Written n rest (digits_on (suc f) n rest)
-    cases true e w = rw (e, digits_on) (one_digit n rest (ltb-true n 10 e))
-    cases false e w = rw (e, digits_on) (one_more n rest _ (w (omega (arith, ltb-false n 10 e))))
+written (suc f) n rest h = elim (cases_Bool (ltb n 10)) [
+  | inl e ↦ rw (e, digits_on) (one_digit n rest (ltb-true n 10 e))
+  | inr e ↦ rw (e, digits_on) (one_more n rest _ (written f (n / 10) ((code "0" + n % 10) ∷ rest) (omega (arith, ltb-false n 10 e))))
+]
 
 natural-written : (n : ℕ) (rest : List ℕ) → Written n rest (natural_on n rest)
 unfolding natural_on

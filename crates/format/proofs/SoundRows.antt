@@ -9,6 +9,7 @@ use native.Mathlib.Omega.{arith}
 use lib.ListN.{length, take, drop, length-append, length-drop, length-reverse}
 use lib.Seq.{get_or-append_seam, length-take-le}
 use lib.Dec.{eqb, ltb, T, lt→ltb, le→leb}
+use Rattle.std.proofs.lemmas.Bool.{cond_both}
 use Rattle.format.specs.Rows.{Row, row_values, make_rows, add, add_tuple, integer_row, span_row, nil_row, cons_row, end_row, field_row, tag_row, row_at, is_tuple_kind}
 use Rattle.format.specs.Sound.{in_slice, spelled_in, sound_row, sound_rest, sound_after, sound_rows}
 use Rattle.format.specs.Machine as M
@@ -185,11 +186,7 @@ module _ (message : List ℕ) where
 
     set-kept : (x v : ℕ) → v < length m.memory → (y : ℕ) → BelowIf (length m.memory) (M.set_register row_values x v m.registers y)
     unfolding M.set_register
-    set-kept x v h y = cases (eqb y x)
-      where
-        cases : (q : Bool) → BelowIf (length m.memory) (cond q (some v) (m.registers y))
-        cases true = h
-        cases false = k.registers y
+    set-kept x v h y = cond_both (eqb y x) _ _ (BelowIf (length m.memory)) (λ e. h) (λ e. k.registers y)
 
     pub keeps : (lim : Limits) (s : Step row_values) → Move row_values at r m s → Mv.Next row_values lim Kept Accepted at r used m s
     unfolding make_rows

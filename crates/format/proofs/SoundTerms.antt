@@ -22,11 +22,7 @@ use Rattle.format.proofs.TableRows.{passed}
 -- two's complement of 64 bits is in range, whatever the words hold
 pub bits_range : (n : ℕ) → T (in_range (from_bits 64 n))
 unfolding from_bits in_range
-bits_range n = cases (ltb n (2 ^ 63)) refl
-  where
-    cases : (b : Bool) → ltb n (2 ^ 63) ≡ b → T (in_range (cond b (pos n) (negsuc (2 ^ 64 - suc n))))
-    cases true e = lt→ltb n (2 ^ 63) (ltb-true n (2 ^ 63) e)
-    cases false e = lt→ltb (2 ^ 64 - suc n) (2 ^ 63) (omega (arith, ltb-false n (2 ^ 63) e))
+bits_range n = grind (arith, ltb-false n (2 ^ 63), ltb-true n (2 ^ 63), lt→ltb)
 
 abbrev AllSound : List Term → Type 0
 AllSound [] = Unit {0}

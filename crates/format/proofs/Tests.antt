@@ -5,14 +5,12 @@ use mathlib.Core.Bool.{Bool, true, false, ◌&&◌, not}
 use native.Mathlib.Omega.{arith}
 use lib.Dec.{T, eqb}
 use borrow.Author.Tests.{eqb-true, ne_eqb}
+use Rattle.std.proofs.lemmas.Bool.{cases_Bool}
+use mathlib.Core.Logic.{inl, inr}
 
 -- a number is k, or the test says that it is not
 pub either : {G : Type 0} (n k : ℕ) → (n ≡ k → G) → (eqb n k ≡ false → G) → G
-either {G} n k f g = by (eqb n k) refl
-  where
-    by : (q : Bool) → eqb n k ≡ q → G
-    by true e = f (eqb-true n k e)
-    by false e = g e
+either n k f g = elim (cases_Bool (eqb n k)) [ inl e ↦ f (eqb-true n k e) | inr e ↦ g e ]
 
 -- none of n numbers from `first` on: what is left after a match on them
 abbrev pub None : ℕ → ℕ → ℕ → Type 0

@@ -31,12 +31,7 @@ module _ (t t' : Tables) (s : SameLengths t t') where
   -- old contents change nothing of any answer but 1 and 2, which leave the tables as lent
   pub old_contents : (message : List ℕ) → ¬ ((decode_answer message t).number ≡ 1) → ¬ ((decode_answer message t).number ≡ 2) → decode_answer message t ≡ decode_answer message t'
   unfolding decode_answer decode_refusal
-  old_contents message not1 not2 = cases (over_bound message) (ltb (length t.registers) register_words) refl refl
-    where
-      cases : (b c : Bool) → over_bound message ≡ b → ltb (length t.registers) register_words ≡ c → decode_answer message t ≡ decode_answer message t'
-      cases true c e f = absurd (not1 (rw e refl))
-      cases false true e f = absurd (not2 (rw (e, f) refl))
-      cases false false e f = rw (e, ← s.registers, f, same-limits) (same-result (run row_values (limits_of t') message))
+  old_contents message not1 not2 = grind (arith, not1, not2, s.registers, same-limits, same-result (run row_values (limits_of t') message))
 
 -- bytes after the `$` change nothing
 later-bytes : (x y z : List ℕ) (t : Tables) → (decode_answer (x ++ y) t).number ≡ 0 → (decode_answer (x ++ y) t).place ≡ length x
