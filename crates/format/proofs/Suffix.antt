@@ -18,6 +18,7 @@ use Rattle.format.specs.Lex.{Item, Scan, Digits, in_range, lex, scan, digits, in
 use Rattle.format.specs.Machine as M
 use Rattle.format.specs.Machine.{Values, Machine, Limits, Step, Outcome, Result, refuse, go, finish, refused, accepted, run, run_free}
 use Rattle.format.proofs.Items.{ItemOk, lex-ok}
+use Rattle.format.proofs.Limits.{accepted-free, value_only, enough-room}
 
 -- what comes of x and of x ++ z: the same; or of x `end`, which says that x ends too early, and of x ++ z a refusal or what reaches past x
 data Agree {A : Type 0} (end : A) (Far : A → Type 0) : A → A → Type 0 where
@@ -238,94 +239,50 @@ module _ (𝒱 : Values) where
   follow-agree j n next next' end f g (ends {b = go k w m} h) = ends (g k w m h)
   follow-agree j n next next' end f g (ends {b = finish v} h) = absurd h
 
-  -- what the run under limits and the free run have in common, so that one induction serves both:
-  -- a check after each step, which leaves refusals as they are and far steps far, and the run's three equations
-  record Runs (A : Type 0) : Type 0 where
-    check : ℕ → ℕ → Step 𝒱 → Step 𝒱
-    result : ℕ → Machine 𝒱 → 𝒱.Value → A
-    from : List ℕ → ℕ → ℕ → ℕ → Machine 𝒱 → Outcome A
-    refuses : (at used n p : ℕ) → check at used (refuse n p) ≡ refuse n p
-    keeps : (j at used : ℕ) (s : Step 𝒱) → FarStep j s → FarStep j (check at used s)
-    over : (skip at used : ℕ) (m : Machine 𝒱) → from [] skip at used m ≡ refused 3 at
-    skips : (c : ℕ) (r : List ℕ) (k at used : ℕ) (m : Machine 𝒱) → from (c ∷ r) (suc k) at used m ≡ from r k (suc at) used m
-    steps : (c : ℕ) (r : List ℕ) (at used : ℕ) (m : Machine 𝒱)
-        → from (c ∷ r) zero at used m
-        ≡ M.follow 𝒱 (check at used (M.step 𝒱 at r m (lex c r))) (λ k w m'. from r k (suc at) (used + w) m') (λ v. accepted (suc at) (result used m v))
-
-  module _ {A : Type 0} (ℛ : Runs A) where
-    runs-far : (n : ℕ) (r : List ℕ) (skip at used : ℕ) (m : Machine 𝒱) → n ≤ at + skip → FarRun n (ℛ.from r skip at used m)
-    runs-far n [] skip at used m h = rw (ℛ.over skip at used m) tt
-    runs-far n (c ∷ r) (suc k) at used m h = rw (ℛ.skips c r k at used m) (runs-far n r k (suc at) used m (omega arith))
-    runs-far n (c ∷ r) zero at used m h =
-        rw (ℛ.steps c r at used m) (follow-far n _ _ _ (λ k w m'. runs-far n r k (suc at) (used + w) m' (omega arith)) (λ v. omega arith))
-
-    runs-agree : (n : ℕ) (x z : List ℕ) (skip at used : ℕ) (m : Machine 𝒱) → n ≡ at + length x
-        → Agree (refused 3 n) (FarRun n) (ℛ.from x skip at used m) (ℛ.from (x ++ z) skip at used m)
-    runs-agree n [] z skip at used m e =
-        let here : at ≡ n = omega arith in
-        rw (ℛ.over skip at used m, here) (ends (runs-far n z skip n used m (omega arith)))
-    runs-agree n (c ∷ x) z (suc k) at used m e = rw (ℛ.skips c x k at used m, ℛ.skips c (x ++ z) k at used m) (runs-agree n x z k (suc at) used m (omega arith))
-    runs-agree n (c ∷ x) z zero at used m e =
-        rw (ℛ.steps c x at used m, ℛ.steps c (x ++ z) at used m)
-        (follow-agree (length x) n _ _ _ (λ k w m'. runs-agree n x z k (suc at) (used + w) m' (omega arith))
-        (λ k w m' h. runs-far n (x ++ z) k (suc at) (used + w) m' (omega arith)) checked)
-      where
-        place : suc at + length x ≡ n
-        place = omega arith
-
-        checked : Agree (refuse 3 n) (FarStep (length x)) (ℛ.check at used (M.step 𝒱 at x m (lex c x))) (ℛ.check at used (M.step 𝒱 at (x ++ z) m (lex c (x ++ z))))
-        checked =
-            rw (ℛ.refuses at used 3 n)
-            at (agree-map {G = FarStep (length x)} (ℛ.check at used) (ℛ.keeps (length x) at used) (rw place at (step-agree at x z m (lex-agree c x z) (lex-ok c x))))
-
-    runs-appended : (x z : List ℕ) (a : Outcome A) → ℛ.from x 0 0 0 (M.start 𝒱) ≡ a → NotCut a → ℛ.from (x ++ z) 0 0 0 (M.start 𝒱) ≡ a
-    runs-appended x z a e h = onward (runs-agree (length x) x z 0 0 0 (M.start 𝒱) (omega arith)) (subst NotCut (sym e) h) ∙ e
-
-  -- the free run: no check and no count
-  free : Runs 𝒱.Value
-  unfolding M.run_free_from
-  free = record {
-    check = λ at used s. s;
-    result = λ used m v. v;
-    from = λ r skip at used m. M.run_free_from 𝒱 r skip at m;
-    refuses = λ at used n p. refl;
-    keeps = λ j at used s h. h;
-    over = λ skip at used m. refl;
-    skips = λ c r k at used m. refl;
-    steps = λ c r at used m. refl;
-  }
-
-  pub appended-free : (x z : List ℕ) (k : ℕ) (v : 𝒱.Value) → run_free 𝒱 x ≡ accepted k v → run_free 𝒱 (x ++ z) ≡ accepted k v
-  unfolding M.run_free free
-  appended-free x z k v e = runs-appended free x z (accepted k v) e tt
-
   module _ (lim : Limits) where
+    -- the limits leave refusals as they are and far steps far
     bounded-far : (j at used : ℕ) (s : Step 𝒱) → FarStep j s → FarStep j (M.bounded 𝒱 lim at used s)
     unfolding M.bounded
     bounded-far j at used (refuse n p) h = tt
     bounded-far j at used (finish v) h = absurd h
-    bounded-far j at used (go k w m) h =
-        either (FarStep j) (ltb lim.rows (used + w)) tt
-        (either (FarStep j) (ltb lim.stack (length m.stack)) tt (either (FarStep j) (ltb lim.marks (length m.marks)) tt h))
+    bounded-far j at used (go k w m) h = grind arith
 
-    limited : Runs (Result 𝒱)
+    run-far : (n : ℕ) (r : List ℕ) (skip at used : ℕ) (m : Machine 𝒱) → n ≤ at + skip → FarRun n (M.run_from 𝒱 lim r skip at used m)
+    unfolding M.run_from
+    run-far n [] skip at used m h = tt
+    run-far n (c ∷ r) (suc k) at used m h = run-far n r k (suc at) used m (omega arith)
+    run-far n (c ∷ r) zero at used m h = follow-far n _ _ _ (λ k w m'. run-far n r k (suc at) (used + w) m' (omega arith)) (λ v. omega arith)
+
+    run-agree : (n : ℕ) (x z : List ℕ) (skip at used : ℕ) (m : Machine 𝒱) → n ≡ at + length x
+        → Agree (refused 3 n) (FarRun n) (M.run_from 𝒱 lim x skip at used m) (M.run_from 𝒱 lim (x ++ z) skip at used m)
     unfolding M.run_from M.bounded
-    limited = record {
-      check = M.bounded 𝒱 lim;
-      result = λ used m v. record { used = used; root = v; memory = m.memory };
-      from = M.run_from 𝒱 lim;
-      refuses = λ at used n p. refl;
-      keeps = bounded-far;
-      over = λ skip at used m. refl;
-      skips = λ c r k at used m. refl;
-      steps = λ c r at used m. refl;
-    }
+    run-agree n [] z skip at used m e =
+        let here : at ≡ n = omega arith in
+        rw here (ends (run-far n z skip n used m (omega arith)))
+    run-agree n (c ∷ x) z (suc k) at used m e = run-agree n x z k (suc at) used m (omega arith)
+    run-agree n (c ∷ x) z zero at used m e =
+        let place : suc at + length x ≡ n = omega arith in
+        let steps = rw place at (step-agree at x z m (lex-agree c x z) (lex-ok c x)) in
+        follow-agree (length x) n _ _ _ (λ k w m'. run-agree n x z k (suc at) (used + w) m' (omega arith))
+        (λ k w m' h. run-far n (x ++ z) k (suc at) (used + w) m' (omega arith)) (agree-map {G = FarStep (length x)} (M.bounded 𝒱 lim at used) (bounded-far (length x) at used) steps)
 
     pub appended : (x z : List ℕ) (a : Outcome (Result 𝒱)) → run 𝒱 lim x ≡ a → NotCut a → run 𝒱 lim (x ++ z) ≡ a
-    unfolding M.run limited
-    appended x z a e h = runs-appended limited x z a e h
+    unfolding M.run
+    appended x z a e h = onward (run-agree (length x) x z 0 0 0 (M.start 𝒱) (omega arith)) (subst NotCut (sym e) h) ∙ e
 
     -- bytes after the `$`: changed, cut off (z = []) or added to (y = [])
     pub rest_unread : (x y z : List ℕ) (r : Result 𝒱) → run 𝒱 lim (x ++ y) ≡ accepted (length x) r → run 𝒱 lim (x ++ z) ≡ accepted (length x) r
-    unfolding M.run limited
-    rest_unread x y z r e = appended x z (accepted (length x) r) (back r (runs-agree limited (length x) x y 0 0 0 (M.start 𝒱) (omega arith)) e) tt
+    unfolding M.run
+    rest_unread x y z r e = appended x z (accepted (length x) r) (back r (run-agree (length x) x y 0 0 0 (M.start 𝒱) (omega arith)) e) tt
+
+  -- without limits: with enough of them the run is the same
+  pub appended-free : (x z : List ℕ) (k : ℕ) (v : 𝒱.Value) → run_free 𝒱 x ≡ accepted k v → run_free 𝒱 (x ++ z) ≡ accepted k v
+  unfolding value_only
+  appended-free x z k v e = by (run 𝒱 roomy x) refl (enough-room 𝒱 roomy x (omega arith) (omega arith) (omega arith) ∙ e)
+    where
+      roomy : Limits
+      roomy = record { rows = 2 * length x; stack = length x; marks = length x }
+
+      by : (a : Outcome (Result 𝒱)) → run 𝒱 roomy x ≡ a → value_only 𝒱 roomy a ≡ accepted k v → run_free 𝒱 (x ++ z) ≡ accepted k v
+      by (refused n p) f g = cc
+      by (accepted j res) f g = accepted-free 𝒱 roomy (x ++ z) j res (appended roomy x z (accepted j res) f tt) ∙ g
