@@ -10,7 +10,9 @@ use lib.IntN.{ℤ, pos, negsuc, neg_ℤ}
 use lib.ListN.{length, take, get_or, length-append, get_or-append}
 use lib.Seq.{take-append-le}
 use lib.Dec.{eqb, ltb, leb}
-use borrow.Author.Tests.{leb-true, leb-false, lt-leb}
+use borrow.Author.Tests.{le-leb, lt-leb}
+use mathlib.Core.Logic.{inl, inr}
+use Rattle.std.proofs.lemmas.Bool.{cases_Bool, cases_lt}
 use Rattle.format.specs.Byte as B
 use Rattle.format.specs.Byte.{Class, class_of, has_class}
 use Rattle.format.specs.Lex as L
@@ -28,14 +30,6 @@ data Agree {A : Type 0} (end : A) (Far : A → Type 0) : A → A → Type 0 wher
 agree-map : {A B : Type 0} {end : A} {F : A → Type 0} {G : B → Type 0} (f : A → B) → ((a : A) → F a → G (f a)) → {a b : A} → Agree end F a b → Agree (f end) G (f a) (f b)
 agree-map f h same = same
 agree-map f h (ends {b} p) = ends (h b p)
-
-agree-cond : {A : Type 0} {end : A} {F : A → Type 0} (c : Bool) {s t s' t' : A} → Agree end F s t → Agree end F s' t' → Agree end F (cond c s s') (cond c t t')
-agree-cond true p q = p
-agree-cond false p q = q
-
-either : {A : Type 0} (P : A → Type 0) (c : Bool) {s t : A} → P s → P t → P (cond c s t)
-either P true p q = p
-either P false p q = q
 
 -- digits that go on for n bytes
 abbrev FarDigits : ℕ → Digits → Type 0
@@ -71,60 +65,52 @@ scan-agree n quote true j (c ∷ x) z e = grind (arith, same, scan-agree n quote
 scan-agree n quote false j (c ∷ x) z e = grind (arith, same, scan-agree n quote (eqb c (code "\\")) (suc j) x z)
 
 -- the items that x ++ z can show where x is cut off inside the item: n is the length of x
-data FarItem (n : ℕ) : Item → Type 0 where
-  far_comment : {k : ℕ} → n ≤ k → FarItem n (L.comment_item k)
-  far_atom : {k : ℕ} → n ≤ k → FarItem n (L.atom_item k)
-  far_string : {k : ℕ} → n ≤ k → FarItem n (L.string_item k)
-  far_tag : {k : ℕ} → n ≤ k → FarItem n (L.tag_item k)
-  far_integer : {i : ℤ} {k : ℕ} → n ≤ k → FarItem n (L.integer_item i k)
-  far_store : {b : ℕ} → n ≤ 1 → FarItem n (L.store_item b)
-  far_cut : FarItem n L.cut
-  far_stray : {k : ℕ} → FarItem n (L.stray k)
-  far_large : FarItem n L.too_large
+abbrev FarItem : ℕ → Item → Type 0
+FarItem n (L.comment_item k) = n ≤ k
+FarItem n (L.atom_item k) = n ≤ k
+FarItem n (L.string_item k) = n ≤ k
+FarItem n (L.tag_item k) = n ≤ k
+FarItem n (L.integer_item i k) = n ≤ k
+FarItem n (L.store_item b) = n ≤ 1
+FarItem n L.cut = Unit {0}
+FarItem n (L.stray k) = Unit {0}
+FarItem n L.too_large = Unit {0}
+FarItem n _ = ⊥
 
 abbrev Items : ℕ → Item → Item → Type 0
 Items n = Agree L.cut (FarItem n)
 
-integer-far : (n : ℕ) (sign : ℕ → ℤ) (d : Digits) → FarDigits n d → FarItem n (integer_of sign d)
-unfolding integer_of
-integer-far n sign L.unfinished h = far_cut
-integer-far n sign (L.value v k) h = either (FarItem n) (in_range (sign v)) (far_integer h) far_large
-
 integer-agree : (n : ℕ) (sign : ℕ → ℤ) {d d' : Digits} → Agree L.unfinished (FarDigits n) d d' → Items n (integer_of sign d) (integer_of sign d')
 unfolding integer_of
-integer-agree n sign = agree-map (integer_of sign) (integer-far n sign)
+integer-agree n sign = agree-map (integer_of sign) (λ d h. grind arith)
 
 quoted-agree : (quote : ℕ) (item : ℕ → Item) (x z : List ℕ) → ((k : ℕ) → length x ≤ k → FarItem (length x) (item k)) → Items (length x) (quoted quote item x) (quoted quote item (x ++ z))
 unfolding quoted quoted_item
-quoted-agree quote item x z h = agree-map (quoted_item item) far (scan-agree (length x) quote false 0 x z (omega arith))
-  where
-    far : (s : Scan) → FarScan (length x) s → FarItem (length x) (quoted_item item s)
-    far Scan.ended g = far_cut
-    far (L.stray_at k) g = far_stray
-    far (L.closed_at k) g = h k g
+quoted-agree quote item x z h = agree-map (quoted_item item) (λ s g. grind (arith, h)) (scan-agree (length x) quote false 0 x z (omega arith))
 
 negative-agree : (x z : List ℕ) → Items (length x) (negative x) (negative (x ++ z))
-unfolding negative
+unfolding negative integer_of
 negative-agree [] [] = same
-negative-agree [] (c ∷ z) =
-    ends (either (FarItem 0) (has_class B.digit c) (integer-far 0 (λ v. neg_ℤ (pos v)) (digits (c - code "0") 1 z) (digits-far 0 (c - code "0") 1 z (omega arith))) far_stray)
-negative-agree (c ∷ x) z =
-    agree-cond (has_class B.digit c) (integer-agree (suc (length x)) (λ v. neg_ℤ (pos v)) (digits-agree (suc (length x)) (c - code "0") 1 x z (omega arith))) same
+negative-agree [] (c ∷ z) = ends (grind (arith, digits-far 0 (c - code "0") 1 z))
+negative-agree (c ∷ x) z = elim (cases_Bool (has_class B.digit c)) [
+  | inl e ↦ rw e (integer-agree (suc (length x)) (λ v. neg_ℤ (pos v)) (digits-agree (suc (length x)) (c - code "0") 1 x z (omega arith)))
+  | inr e ↦ rw e same
+]
 
 store-agree : (x z : List ℕ) → Items (length x) (store x) (store (x ++ z))
 unfolding store
 store-agree [] [] = same
-store-agree [] (c ∷ z) = ends (either (FarItem 0) (has_class B.register c) (far_store (omega arith)) far_stray)
+store-agree [] (c ∷ z) = ends (grind arith)
 store-agree (c ∷ x) z = same
 
 item-agree : (k : Class) (c : ℕ) (x z : List ℕ) → Items (length x) (item_of k c x) (item_of k c (x ++ z))
 unfolding item_of
 item-agree B.digit c x z = integer-agree (length x) (λ v. pos v) (digits-agree (length x) (c - code "0") 0 x z (omega arith))
 item-agree B.minus c x z = negative-agree x z
-item-agree B.atom_quote c x z = quoted-agree (code "'") L.atom_item x z (λ k h. far_atom h)
-item-agree B.string_quote c x z = quoted-agree (code "\"") L.string_item x z (λ k h. far_string h)
-item-agree B.tag_quote c x z = quoted-agree (code "`") L.tag_item x z (λ k h. far_tag h)
-item-agree B.comment_quote c x z = quoted-agree (code "%") L.comment_item x z (λ k h. far_comment h)
+item-agree B.atom_quote c x z = quoted-agree (code "'") L.atom_item x z (λ k h. h)
+item-agree B.string_quote c x z = quoted-agree (code "\"") L.string_item x z (λ k h. h)
+item-agree B.tag_quote c x z = quoted-agree (code "`") L.tag_item x z (λ k h. h)
+item-agree B.comment_quote c x z = quoted-agree (code "%") L.comment_item x z (λ k h. h)
 item-agree B.greater c x z = store-agree x z
 item-agree _ c x z = same
 
@@ -167,13 +153,13 @@ module _ (𝒱 : Values) where
         → FarStep (length x) (M.pop 𝒱 at m.marks st next)
     unfolding M.pop
     pop-far [] next h = tt
-    pop-far (v ∷ st) next h = either (FarStep (length x)) (ltb (length st) (M.base m.marks)) tt (h v st)
+    pop-far (v ∷ st) next h = grind (arith, h v st)
 
     pop-agree : (st : List 𝒱.Value) (next next' : 𝒱.Value → List 𝒱.Value → Step 𝒱) → ((v : 𝒱.Value) (st' : List 𝒱.Value) → Steps (next v st') (next' v st'))
         → Steps (M.pop 𝒱 at m.marks st next) (M.pop 𝒱 at m.marks st next')
     unfolding M.pop
     pop-agree [] next next' h = same
-    pop-agree (v ∷ st) next next' h = agree-cond (ltb (length st) (M.base m.marks)) same (h v st)
+    pop-agree (v ∷ st) next next' h = grind (arith, same, h v st)
 
     -- a step that takes bytes inside x
     take-agree : (f : List ℕ → Step 𝒱) (k : ℕ) → k < length x → Steps (f (take k x)) (f (take k (x ++ z)))
@@ -183,15 +169,13 @@ module _ (𝒱 : Values) where
     unfolding M.take_binary
     binary-agree st none = same
     binary-agree st (some (negsuc n)) = same
-    binary-agree st (some (pos n)) = cases (leb (length x) n) refl
-      where
-        cases : (b : Bool) → leb (length x) n ≡ b → Steps (M.take_binary 𝒱 at x m st (some (pos n))) (M.take_binary 𝒱 at (x ++ z) m st (some (pos n)))
-        cases true e =
-            let l : length x ≤ suc n = omega (arith, leb-true (length x) n e) in
-            rw e (ends (either (FarStep (length x)) (leb (length (x ++ z)) n) tt (either (FarStep (length x)) (eqb (get_or (x ++ z) n 0) (code "~")) l tt)))
-        cases false e =
-            let l : n < length x = leb-false (length x) n e in
-            rw (e, lt-leb (length (x ++ z)) n (omega (arith, length-append x z)), get_or-append x z 0 n l, take-append-le n x z (omega arith)) same
+    binary-agree st (some (pos n)) = elim (cases_lt n (length x)) [
+      | inl l ↦
+          rw (lt-leb (length x) n l, lt-leb (length (x ++ z)) n (omega (arith, length-append x z)), get_or-append x z 0 n l, take-append-le n x z (omega arith)) same
+      | inr l ↦
+          let far : FarStep (length x) (M.take_binary 𝒱 at (x ++ z) m st (some (pos n))) = grind arith in
+          rw (le-leb (length x) n l) (ends far)
+    ]
 
     -- the same item on both sides
     step_same : (i : Item) → ItemOk x i → Steps (M.step 𝒱 at x m i) (M.step 𝒱 at (x ++ z) m i)
@@ -204,37 +188,26 @@ module _ (𝒱 : Values) where
     step_same L.cut h = ends tt
     step_same _ h = same
 
-    step-far : {i : Item} → FarItem (length x) i → FarStep (length x) (M.step 𝒱 at (x ++ z) m i)
+    step-far : (i : Item) → FarItem (length x) i → FarStep (length x) (M.step 𝒱 at (x ++ z) m i)
     unfolding M.step
-    step-far (far_comment h) = omega arith
-    step-far (far_atom h) = omega arith
-    step-far (far_string h) = omega arith
-    step-far (far_tag h) = pop-far m.stack _ (λ v st. omega arith)
-    step-far (far_integer h) = h
-    step-far (far_store h) = pop-far m.stack _ (λ v st. h)
-    step-far far_cut = tt
-    step-far far_stray = tt
-    step-far far_large = tt
+    step-far i h = grind (arith, pop-far m.stack)
 
     step-agree : {i j : Item} → Items (length x) i j → ItemOk x i → Steps (M.step 𝒱 at x m i) (M.step 𝒱 at (x ++ z) m j)
     unfolding M.step
     step-agree (same {a = i}) h = step_same i h
-    step-agree (ends p) h = ends (step-far p)
+    step-agree (ends p) h = ends (step-far _ p)
 
   follow-far : {A : Type 0} (n : ℕ) (s : Step 𝒱) (next : ℕ → ℕ → Machine 𝒱 → Outcome A) (end : 𝒱.Value → Outcome A)
       → ((k w : ℕ) (m : Machine 𝒱) → FarRun n (next k w m)) → ((v : 𝒱.Value) → FarRun n (end v)) → FarRun n (M.follow 𝒱 s next end)
   unfolding M.follow
-  follow-far n (refuse a p) next end f g = tt
-  follow-far n (go k w m) next end f g = f k w m
-  follow-far n (finish v) next end f g = g v
+  follow-far n s next end f g = grind (arith, f, g)
 
   follow-agree : {A : Type 0} (j n : ℕ) (next next' : ℕ → ℕ → Machine 𝒱 → Outcome A) (end : 𝒱.Value → Outcome A)
       → ((k w : ℕ) (m : Machine 𝒱) → Agree (refused 3 n) (FarRun n) (next k w m) (next' k w m)) → ((k w : ℕ) (m : Machine 𝒱) → j ≤ k → FarRun n (next' k w m))
       → {s t : Step 𝒱} → Agree (refuse 3 n) (FarStep j) s t → Agree (refused 3 n) (FarRun n) (M.follow 𝒱 s next end) (M.follow 𝒱 t next' end)
   unfolding M.follow
-  follow-agree j n next next' end f g (same {a = refuse a p}) = same
   follow-agree j n next next' end f g (same {a = go k w m}) = f k w m
-  follow-agree j n next next' end f g (same {a = finish v}) = same
+  follow-agree j n next next' end f g (same {a = _}) = same
   follow-agree j n next next' end f g (ends {b = refuse a p} h) = ends tt
   follow-agree j n next next' end f g (ends {b = go k w m} h) = ends (g k w m h)
   follow-agree j n next next' end f g (ends {b = finish v} h) = absurd h
