@@ -56,13 +56,11 @@ pub record Accepts (message : List ℕ) (t : Tables) : Type 0 where
 
 pub accepts : (message : List ℕ) (t : Tables) → (decode_answer message t).number ≡ 0 → Accepts message t
 unfolding decode_answer decode_refusal decode_result
-accepts message t z = cases (over_bound message) (ltb (length t.registers) register_words) (run row_values (limits_of t) message) refl refl refl
+accepts message t z = by (run row_values (limits_of t) message) refl
   where
-    cases : (b c : Bool) (o : Outcome (Result row_values)) → over_bound message ≡ b → ltb (length t.registers) register_words ≡ c → run row_values (limits_of t) message ≡ o → Accepts message t
-    cases true c o e f g = absurd (omega (arith, rw e at z))
-    cases false true o e f g = absurd (omega (arith, rw (e, f) at z))
-    cases false false (refused n p) e f g = absurd (omega (arith, machine-number row_values (limits_of t) message n p g, rw (e, f, g) at z))
-    cases false false (accepted k res) e f g = record { in_bound = e; consumed = k; result = res; ran = g; answer = rw (e, f, g) }
+    by : (o : Outcome (Result row_values)) → run row_values (limits_of t) message ≡ o → Accepts message t
+    by (refused n p) e = absurd (grind (arith, machine-number row_values (limits_of t) message n p e))
+    by (accepted k res) e = record { in_bound = grind arith; consumed = k; result = res; ran = e; answer = grind arith }
 
 module _ (message : List ℕ) (t : Tables) where
   -- the rows of an accepted message, lying in the table lent

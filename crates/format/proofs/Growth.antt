@@ -12,13 +12,10 @@ use Rattle.format.proofs.Moves.{Move, Making, MachineNumber}
 module _ (𝒱 : Values) where
   -- the stack that a new value comes on is no deeper than before
   making_depth : {at : ℕ} {r : List ℕ} {m : Machine 𝒱} {shape : Shape 𝒱.Value} {st : List 𝒱.Value} → Making 𝒱 at r m shape st → length st ≤ length m.stack
-  making_depth (Mv.integers z h) = omega arith
-  making_depth (Mv.atoms k h) = omega arith
-  making_depth (Mv.strings k h) = omega arith
   making_depth (Mv.binaries n v p i h) = omega (arith, ap length p.splits)
-  making_depth Mv.nils = omega arith
   making_depth (Mv.conses v l p q t) = omega (arith, ap length p.splits, ap length q.splits)
   making_depth (Mv.tags k v p h) = omega (arith, ap length p.splits)
+  making_depth _ = omega arith
 
   -- what one item may add: two in rows and values together, one value, one mark
   pub record Adds (m : Machine 𝒱) (w : ℕ) (m' : Machine 𝒱) : Type 0 where
@@ -34,12 +31,10 @@ module _ (𝒱 : Values) where
   pub adds : {at : ℕ} {r : List ℕ} {m : Machine 𝒱} (s : Step 𝒱) → Move 𝒱 at r m s → StepAdds m s
   unfolding M.fresh
   adds s (Mv.stops n p h g) = h
-  adds s (Mv.rests k h) = record { rows = omega arith; depth = omega arith; marks = omega arith }
-  adds s (Mv.makes k h x) = record { rows = omega (arith, making_depth x); depth = omega (arith, making_depth x); marks = omega arith }
-  adds s Mv.opens = record { rows = omega arith; depth = omega arith; marks = omega arith }
-  adds {m = m} s (Mv.tuples d k ds e l) =
-      let n : length (drop k m.stack) ≡ length m.stack - k = length-drop k m.stack in
-      record { rows = omega arith; depth = omega arith; marks = omega (arith, ap length e) }
-  adds s (Mv.stores x h v p) = record { rows = omega (arith, ap length p.splits); depth = omega (arith, ap length p.splits); marks = omega arith }
-  adds s (Mv.pushes x v e) = record { rows = omega arith; depth = omega arith; marks = omega arith }
+  adds s (Mv.rests k h) = omega arith
+  adds s (Mv.makes k h x) = omega (arith, making_depth x)
+  adds s Mv.opens = omega arith
+  adds {m = m} s (Mv.tuples d k ds e l) = omega (arith, length-drop k m.stack, ap length e)
+  adds s (Mv.stores x h v p) = omega (arith, ap length p.splits)
+  adds s (Mv.pushes x v e) = omega arith
   adds s (Mv.ends v e) = ap length e

@@ -64,8 +64,7 @@ module _ (𝒱 : Values) (lim : Limits) where
   unfolding M.bounded
   bounded_idle at used c r m (refuse n p) h a = refl
   bounded_idle at used c r m (finish v) h a = refl
-  bounded_idle at used c r m (go k w m') h a =
-      rw (le-ltb lim.rows (used + w) (omega arith), le-ltb lim.stack (length m'.stack) (omega arith), le-ltb lim.marks (length m'.marks) (omega arith))
+  bounded_idle at used c r m (go k w m') h a = grind arith
 
   -- an answer under limits, without the rows
   unfoldable pub value_only : Outcome (Result 𝒱) → Outcome 𝒱.Value
@@ -79,12 +78,12 @@ module _ (𝒱 : Values) (lim : Limits) where
   unfolding M.follow value_only
   follow-free used c r m next end next' end' h f g (refuse n p) a = refl
   follow-free used c r m next end next' end' h f g (finish v) a = g v
-  follow-free used c r m next end next' end' h f g (go k w m') a = f k w m' (record { rows = omega arith; depth = omega arith; marks = omega arith })
+  follow-free used c r m next end next' end' h f g (go k w m') a = f k w m' (omega arith)
 
   free-from : (s : List ℕ) (skip at used : ℕ) (m : Machine 𝒱) → Room used m s → value_only (M.run_from 𝒱 lim s skip at used m) ≡ M.run_free_from 𝒱 s skip at m
   unfolding M.run_from M.run_free_from value_only
   free-from [] skip at used m h = refl
-  free-from (c ∷ r) (suc k) at used m h = free-from r k (suc at) used m (record { rows = omega arith; depth = omega arith; marks = omega arith })
+  free-from (c ∷ r) (suc k) at used m h = free-from r k (suc at) used m (omega arith)
   free-from (c ∷ r) zero at used m h =
       let a = adds 𝒱 (M.step 𝒱 at r m (lex c r)) (move 𝒱 at r m (lex c r) (lex-ok c r)) in
       let next : ℕ → ℕ → Machine 𝒱 → Outcome (Result 𝒱) = λ k w m'. M.run_from 𝒱 lim r k (suc at) (used + w) m' in
@@ -96,7 +95,7 @@ module _ (𝒱 : Values) (lim : Limits) where
   pub enough-room : (message : List ℕ) → 2 * length message ≤ lim.rows → length message ≤ lim.stack → length message ≤ lim.marks
       → value_only (run 𝒱 lim message) ≡ run_free 𝒱 message
   unfolding run run_free M.start
-  enough-room message a b c = free-from message 0 0 0 (M.start 𝒱) (record { rows = omega arith; depth = omega arith; marks = omega arith })
+  enough-room message a b c = free-from message 0 0 0 (M.start 𝒱) (omega arith)
 
   -- an accepted message's rows have room
   abbrev Holds : Outcome (Result 𝒱) → Type 0

@@ -30,13 +30,4 @@ module _ (message words : List ℕ) (used root : ℕ) (scratch output : List ℕ
 
   pub writes : Writes (write_answer message words used root scratch output)
   unfolding write_answer write_text over_bound
-  writes = by (ltb message_bound (length message)) (ltb (length scratch) used) (sound_table message words used root) (ltb (length output) (length text)) refl refl refl
-    where
-      by : (a b c d : Bool) → ltb message_bound (length message) ≡ a → sound_table message words used root ≡ c → ltb (length output) (length text) ≡ d
-          → Writes (cond a (write_refusal 1 scratch output) (cond b (write_refusal 2 scratch output) (cond (not c) (write_refusal 16 (zeroed scratch) output)
-          (cond d (write_refusal 15 (zeroed scratch) output) (record { number = 0; bytes = length text; scratch = zeroed scratch; output = text ++ drop (length text) output })))))
-      by true b c d p q r = early 1 (omega arith) (omega arith)
-      by false true c d p q r = early 2 (omega arith) (omega arith)
-      by false false false d p q r = late 16 (omega arith)
-      by false false true true p q r = late 15 (omega arith)
-      by false false true false p q r = whole (subst T (sym q) tt) (ltb-false _ _ p) (ltb-false _ _ r)
+  writes = grind (arith, early 1, early 2, late 16, late 15, whole, ltb-false message_bound (length message), ltb-false (length output) (length text))
