@@ -65,40 +65,26 @@ module _ (𝒱 : Values) (at : ℕ) (r : List ℕ) (m : Machine 𝒱) where
   inside s (pushes x v e) = omega arith
   inside s (ends v e) = tt
 
-  -- a test that refuses, or goes on where it fails
-  unless : (c : Bool) (n p : ℕ) (s : Step 𝒱) → MachineNumber n → p ≤ suc at + length r → (c ≡ false → Move s) → Move (cond c (refuse n p) s)
-  unless true n p s h g f = stops n p h g
-  unless false n p s h g f = f refl
-
-  -- a test that goes on where it holds, or refuses
-  only_if : (c : Bool) (n p : ℕ) (s : Step 𝒱) → MachineNumber n → p ≤ suc at + length r → (c ≡ true → Move s) → Move (cond c s (refuse n p))
-  only_if true n p s h g f = f refl
-  only_if false n p s h g f = stops n p h g
-
   pop-move : (stack : List 𝒱.Value) (next : 𝒱.Value → List 𝒱.Value → Step 𝒱)
       → ((v : 𝒱.Value) (st : List 𝒱.Value) → Popped stack v st → Move (next v st)) → Move (M.pop 𝒱 at m.marks stack next)
   unfolding M.pop
   pop-move [] next f = stops 6 at (omega arith) (omega arith)
-  pop-move (v ∷ st) next f =
-      unless (ltb (length st) (base m.marks)) 6 at (next v st) (omega arith) (omega arith) (λ e. f v st (record { splits = refl; above = ltb-false (length st) (base m.marks) e }))
+  pop-move (v ∷ st) next f = grind (arith, stops 6 at, f v st, ltb-false (length st) (base m.marks))
 
   binary-move : (v : 𝒱.Value) (st : List 𝒱.Value) → Popped m.stack v st → (o : Option ℤ) → 𝒱.integer_in m.memory v ≡ o → Move (M.take_binary 𝒱 at r m st o)
   unfolding M.take_binary
   binary-move v st p none e = stops 7 at (omega arith) (omega arith)
   binary-move v st p (some (negsuc n)) e = stops 8 at (omega arith) (omega arith)
-  binary-move v st p (some (pos n)) e =
-      unless (leb (length r) n) 3 (suc at + length r) _ (omega arith) (omega arith) (λ l.
-      only_if (eqb (get_or r n 0) (code "~")) 4 (suc at + n) _ (omega arith) (omega (arith, leb-false (length r) n l)) (λ t. makes (suc n) (leb-false (length r) n l) (binaries n v p e (leb-false (length r) n l))))
+  binary-move v st p (some (pos n)) e = grind (arith, stops 3, stops 4, makes (suc n), binaries n v p e, leb-false (length r) n)
 
   cons-move : (v l : 𝒱.Value) (mid st : List 𝒱.Value) → Popped m.stack v mid → Popped mid l st → Move (M.cons_list 𝒱 at m v l st)
   unfolding M.cons_list
-  cons-move v l mid st p q = only_if (𝒱.is_list m.memory l) 7 at _ (omega arith) (omega arith) (λ t. makes 0 (omega arith) (conses v l p q t))
+  cons-move v l mid st p q = grind (arith, stops 7 at, makes 0, conses v l p q)
 
   close_move : (ds : List ℕ) → m.marks ≡ ds → Move (M.close_tuple 𝒱 at m ds)
   unfolding M.close_tuple
   close_move [] e = stops 10 at (omega arith) (omega arith)
-  close_move (d ∷ ds) e =
-      unless (ltb (length m.stack) d) 17 at _ (omega arith) (omega arith) (λ l. tuples d (length m.stack - d) ds e (omega (arith, ltb-false (length m.stack) d l)))
+  close_move (d ∷ ds) e = grind (arith, stops 17 at, tuples d (length m.stack - d) ds e, ltb-false (length m.stack) d)
 
   push_move : (x : ℕ) (o : Option 𝒱.Value) → m.registers x ≡ o → Move (M.push_register 𝒱 at m o)
   unfolding M.push_register

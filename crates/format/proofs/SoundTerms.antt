@@ -68,20 +68,8 @@ module _ (message : List ℕ) (short : length message < 2 ^ 63) where
   row-sound : (i : ℕ) (ts : List Term) (r : Row) → AllSound ts → T (sound_row message i r) → T (sound_term (term_of_row message ts r))
   unfolding sound_row term_of_row sound_term integer_of_row
   row-sound i ts r s h =
-      let a = r.first in
-      let b = r.second in
-      let c = r.third in
       let at : (j : ℕ) → T (sound_term (get_or ts j no_term)) = λ j. sound-at ts j s in
-      kind-sound (eqb r.kind integer_kind) _ _ _ _ h (λ g. bits_range (a * 2 ^ 32 + b)) (λ h1.
-      kind-sound (eqb r.kind atom_kind) _ _ _ _ h1 (λ g. spelled_of (code "'") a b (and_r (eqb c 0) _ g)) (λ h2.
-      kind-sound (eqb r.kind string_kind) _ _ _ _ h2 (λ g. spelled_of (code "\"") a b (and_r (eqb c 0) _ g)) (λ h3.
-      kind-sound (eqb r.kind binary_kind) _ _ _ _ h3 (λ g. span-short a b (and_r (eqb c 0) _ g)) (λ h4.
-      kind-sound (eqb r.kind nil_kind) _ _ _ _ h4 (λ g. tt) (λ h5.
-      kind-sound (eqb r.kind cons_kind) _ _ _ _ h5 (λ g. and_i (sound_term (get_or ts a no_term)) _ (at a) (items_sound (get_or ts b no_term) (at b))) (λ h6.
-      kind-sound (eqb r.kind end_kind) _ _ _ _ h6 (λ g. tt) (λ h7.
-      kind-sound (eqb r.kind field_kind) _ _ _ _ h7 (λ g. and_i (sound_term (get_or ts a no_term)) _ (at a) (fields_sound (get_or ts b no_term) (at b))) (λ h8.
-      kind-sound (eqb r.kind tag_kind) _ _ _ _ h8 (λ g. and_i (spelled (code "`") false (span_of message a b)) _ (spelled_of (code "`") a b (and_l (spelled_in message (code "`") a b) _ g)) (at c)) (λ h9.
-      absurd h9)))))))))
+      grind (arith, bits_range, spelled_of, span-short, items_sound, fields_sound, at, and_l, and_r, and_i)
 
   terms_sound : (earlier : List Row) (ts : List Term) (rows : List Row) → AllSound ts → T (sound_after message earlier rows) → AllSound (terms_after message ts rows)
   unfolding sound_after terms_after
