@@ -10,6 +10,9 @@ use lib.ListN.{length, take, drop, length-append, length-drop, length-reverse}
 use lib.Seq.{get_or-append_seam, length-take-le}
 use lib.Dec.{eqb, ltb, T, lt→ltb, le→leb}
 use Rattle.std.proofs.lemmas.Bool.{cond_both}
+use Rattle.std.proofs.lemmas.List.Elements.{All-nil, All-cons, All-head, All-tail, All-weaker, All-take, All-drop}
+use Rattle.std.proofs.lemmas.List.Sorted.{All-permutation, IsPermutation-reverse}
+use Rattle.std.specs.List.{All}
 use Rattle.format.specs.Rows.{Row, row_values, make_rows, add, add_tuple, integer_row, span_row, nil_row, cons_row, end_row, field_row, tag_row, row_at, is_tuple_kind}
 use Rattle.format.specs.Sound.{in_slice, spelled_in, sound_row, sound_rest, sound_after, sound_rows}
 use Rattle.format.specs.Machine as M
@@ -21,35 +24,19 @@ use Rattle.format.proofs.Moves as Mv
 use Rattle.format.proofs.Moves.{Move, Making, Popped, holds}
 
 -- row numbers below n: of a stack, of a register
+abbrev pub Low : ℕ → ℕ → Type 0
+Low n v = v < n
+
 abbrev pub Below : ℕ → List ℕ → Type 0
-Below n [] = Unit {0}
-Below n (v ∷ vs) = (v < n) × Below n vs
+Below n = All (Low n)
 
 abbrev pub BelowIf : ℕ → Option ℕ → Type 0
 BelowIf n none = Unit {0}
 BelowIf n (some v) = v < n
 
-below_more : (n n' : ℕ) → n ≤ n' → (vs : List ℕ) → Below n vs → Below n' vs
-below_more n n' l [] h = tt
-below_more n n' l (v ∷ vs) h = (omega (arith, h.0), below_more n n' l vs h.1)
-
 below_if_more : (n n' : ℕ) → n ≤ n' → (o : Option ℕ) → BelowIf n o → BelowIf n' o
 below_if_more n n' l none h = tt
 below_if_more n n' l (some v) h = omega arith
-
-below-take : (n k : ℕ) (vs : List ℕ) → Below n vs → Below n (take k vs)
-below-take n zero vs h = tt
-below-take n (suc k) [] h = tt
-below-take n (suc k) (v ∷ vs) h = (h.0, below-take n k vs h.1)
-
-below-drop : (n k : ℕ) (vs : List ℕ) → Below n vs → Below n (drop k vs)
-below-drop n zero vs h = h
-below-drop n (suc k) [] h = tt
-below-drop n (suc k) (v ∷ vs) h = below-drop n k vs h.1
-
-below-reverse : (n : ℕ) (vs us : List ℕ) → Below n vs → Below n us → Below n (reverse_aux vs us)
-below-reverse n [] us h g = g
-below-reverse n (v ∷ vs) us h g = below-reverse n vs (v ∷ us) h.1 (h.0, g)
 
 module _ (message : List ℕ) where
   -- a row that may come after some rows
@@ -92,12 +79,12 @@ module _ (message : List ℕ) where
   unfolding add_tuple sound_row sound_rest is_tuple_kind end_row field_row
   grown-tuple rows h [] g = record { grown = grown_one rows end_row h tt; is_tuple = last-kind rows end_row tt }
   grown-tuple rows h (v ∷ vs) g =
-      let t = grown-tuple rows h vs g.1 in
+      let t = grown-tuple rows h vs (All-tail (Low (length rows)) v vs g) in
       let rows' = (add_tuple rows vs).0 in
       let e = (add_tuple rows vs).1 in
       let one : Grown rows' 1 (add rows' (field_row v e)) = grown_one rows' (field_row v e) t.grown.sound
       (and_i (ltb v (length rows') && ltb e (length rows')) (is_tuple_kind (row_at rows' e).kind)
-      (and_i (ltb v (length rows')) (ltb e (length rows')) (lt→ltb v (length rows') (omega (arith, g.0, t.grown.longer))) (lt→ltb e (length rows') t.grown.inside)) t.is_tuple) in
+      (and_i (ltb v (length rows')) (ltb e (length rows')) (lt→ltb v (length rows') (omega (arith, All-head (Low (length rows)) v vs g, t.grown.longer))) (lt→ltb e (length rows') t.grown.inside)) t.is_tuple) in
       record {
         grown = record { sound = one.sound; longer = omega (arith, one.longer, t.grown.longer); inside = one.inside };
         is_tuple = last-kind rows' (field_row v e) tt;
@@ -130,7 +117,7 @@ module _ (message : List ℕ) where
           here = drop-next message at k.here;
           sound = g.sound;
           count = omega (arith, g.longer, k.count);
-          stack = (g.inside, below_more (length m.memory) (length (make_rows shape m.memory).0) more st h);
+          stack = All-cons (Low (length (make_rows shape m.memory).0)) _ st g.inside (All-weaker (Low (length m.memory)) (Low (length (make_rows shape m.memory).0)) (λ v l. omega arith) st h);
           registers = λ x. below_if_more (length m.memory) (length (make_rows shape m.memory).0) more (m.registers x) (k.registers x);
         }
 
@@ -149,8 +136,8 @@ module _ (message : List ℕ) where
         and_i (in_slice message (suc at) (length (take n r))) _ (span_in n l) (rw (length-take-le n r l, drop-next message at k.here) h.spells)
 
     -- a popped value and the stack under it
-    popped : {stack : List ℕ} {v : ℕ} {st : List ℕ} → Below (length m.memory) stack → Popped row_values at r m stack v st → Below (length m.memory) (v ∷ st)
-    popped h p = subst (Below (length m.memory)) p.splits h
+    popped : {stack : List ℕ} {v : ℕ} {st : List ℕ} → Below (length m.memory) stack → Popped row_values at r m stack v st → (v < length m.memory) × Below (length m.memory) st
+    popped {v = v} {st = st} h p = let b = subst (Below (length m.memory)) p.splits h in (All-head (Low (length m.memory)) v st b, All-tail (Low (length m.memory)) v st b)
 
     earlier : (v : ℕ) → v < length m.memory → T (ltb v (length m.memory))
     earlier v h = lt→ltb v (length m.memory) h
@@ -197,19 +184,19 @@ module _ (message : List ℕ) where
     keeps lim s (Mv.tuples d j ds e l) =
         let vs : List ℕ = reverse (take j m.stack) in
         let n : length vs ≡ j = length-reverse (take j m.stack) ∙ length-take-le j m.stack (omega arith) in
-        let b : Below (length m.memory) vs = below-reverse (length m.memory) (take j m.stack) [] (below-take (length m.memory) j m.stack k.stack) tt in
-        fresh_kept (suc j) (M.tuple vs) (drop j m.stack) ds (below-drop (length m.memory) j m.stack k.stack) (rw n at (grown-tuple m.memory k.sound vs b).grown)
+        let b : Below (length m.memory) vs = All-permutation (Low (length m.memory)) _ _ (IsPermutation-reverse (take j m.stack)) (All-take (Low (length m.memory)) j m.stack k.stack) in
+        fresh_kept (suc j) (M.tuple vs) (drop j m.stack) ds (All-drop (Low (length m.memory)) j m.stack k.stack) (rw n at (grown-tuple m.memory k.sound vs b).grown)
     keeps lim s (Mv.stores x i v p) =
         let a = popped k.stack p in
         still refl a.1 (set-kept x v a.0)
-    keeps lim s (Mv.pushes x v e) = still refl (subst (BelowIf (length m.memory)) e (k.registers x), k.stack) k.registers
+    keeps lim s (Mv.pushes x v e) = still refl (All-cons (Low (length m.memory)) v m.stack (subst (BelowIf (length m.memory)) e (k.registers x)) k.stack) k.registers
     keeps lim s (Mv.ends v e) =
         let a : Below (length m.memory) (v ∷ []) = subst (Below (length m.memory)) e k.stack in
-        record { sound = k.sound; count = k.count; root = omega (arith, a.0, k.count) }
+        record { sound = k.sound; count = k.count; root = omega (arith, All-head (Low (length m.memory)) v [] a, k.count) }
 
   pub start-kept : Kept 0 message 0 (M.start row_values)
   unfolding M.start sound_rows sound_after
-  start-kept = record { here = refl; sound = tt; count = refl; stack = tt; registers = λ x. tt }
+  start-kept = record { here = refl; sound = tt; count = refl; stack = All-nil (Low 0); registers = λ x. tt }
 
   pub accepted-rows : (lim : Limits) (consumed : ℕ) (res : Result row_values) → run row_values lim message ≡ accepted consumed res → Accepted consumed res
   accepted-rows lim consumed res e =

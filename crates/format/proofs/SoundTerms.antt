@@ -6,9 +6,13 @@ use mathlib.Core.Bool.{Bool, true, false, ◌&&◌, cond}
 use mathlib.Core.List.{List, [], ◌∷◌, ◌++◌}
 use native.Mathlib.Omega.{arith}
 use lib.IntN.{pos, negsuc}
-use lib.ListN.{length, get_or, take, drop, length-take}
+use lib.ListN.{length, get_or, take, drop, length-take, get_or-eq_default}
 use lib.Dec.{eqb, ltb, T, lt→ltb, leb→le}
 use borrow.Author.Tests.{ltb-true, ltb-false}
+use Rattle.std.proofs.lemmas.List.Elements.{All-nil, All-push}
+use Rattle.std.proofs.lemmas.Bool.{cases_lt}
+use mathlib.Core.Logic.{inl, inr}
+use Rattle.std.specs.List.{All}
 use Rattle.format.specs.Lex.{in_range}
 use Rattle.format.specs.Term as T
 use Rattle.format.specs.Term.{Term}
@@ -25,18 +29,11 @@ unfolding from_bits in_range
 bits_range n = grind (arith, ltb-false n (2 ^ 63), ltb-true n (2 ^ 63), lt→ltb)
 
 abbrev AllSound : List Term → Type 0
-AllSound [] = Unit {0}
-AllSound (t ∷ ts) = T (sound_term t) × AllSound ts
-
-all_add : (ts : List Term) (t : Term) → AllSound ts → T (sound_term t) → AllSound (ts ++ (t ∷ []))
-all_add [] t h g = (g, tt)
-all_add (u ∷ ts) t h g = (h.0, all_add ts t h.1 g)
+AllSound = All (λ t. T (sound_term t))
 
 sound-at : (ts : List Term) (i : ℕ) → AllSound ts → T (sound_term (get_or ts i no_term))
 unfolding sound_term spelled
-sound-at [] i h = tt
-sound-at (t ∷ ts) zero h = h.0
-sound-at (t ∷ ts) (suc i) h = sound-at ts i h.1
+sound-at ts i h = elim (cases_lt i (length ts)) [ inl l ↦ h i no_term l | inr l ↦ rw (get_or-eq_default ts no_term l) tt ]
 
 items_sound : (t : Term) → T (sound_term t) → T (sound_terms (items_of t))
 unfolding sound_term items_of
@@ -78,9 +75,9 @@ module _ (message : List ℕ) (short : length message < 2 ^ 63) where
       let own = sound_row message (length earlier) r in
       let rest = sound_rest r.kind _ in
       terms_sound (earlier ++ (r ∷ [])) (ts ++ (term_of_row message ts r ∷ [])) rows
-      (all_add ts (term_of_row message ts r) s (row-sound (length earlier) ts r s (and_l own rest (and_l (own && rest) _ h)))) (and_r (own && rest) _ h)
+      (All-push (λ u. T (sound_term u)) ts (term_of_row message ts r) s (row-sound (length earlier) ts r s (and_l own rest (and_l (own && rest) _ h)))) (and_r (own && rest) _ h)
 
   pub table-term : (words : List ℕ) (used root : ℕ) → T (sound_table message words used root) → T (sound_term (term_at message (rows_of used words) root))
   unfolding sound_rows term_at
   table-term words used root h =
-      sound-at (terms_after message [] (rows_of used words)) root (terms_sound [] [] (rows_of used words) tt (passed message words used root h).rows)
+      sound-at (terms_after message [] (rows_of used words)) root (terms_sound [] [] (rows_of used words) (All-nil (λ t. T (sound_term t))) (passed message words used root h).rows)
