@@ -31,10 +31,8 @@ module _ (𝒱 : Values) where
   pub adds : {at : ℕ} {r : List ℕ} {m : Machine 𝒱} (s : Step 𝒱) → Move 𝒱 at r m s → StepAdds m s
   unfolding M.fresh
   adds s (Mv.stops n p h g) = h
-  adds s (Mv.rests k h) = omega arith
   adds s (Mv.makes k h x) = omega (arith, making_depth x)
-  adds s Mv.opens = omega arith
   adds {m = m} s (Mv.tuples d k ds e l) = omega (arith, length-drop k m.stack, ap length e)
   adds s (Mv.stores x h v p) = omega (arith, ap length p.splits)
-  adds s (Mv.pushes x v e) = omega arith
   adds s (Mv.ends v e) = ap length e
+  adds s _ = omega arith

@@ -59,11 +59,8 @@ module _ (𝒱 : Values) (at : ℕ) (r : List ℕ) (m : Machine 𝒱) where
   inside s (stops n p h g) = g
   inside s (rests k h) = h
   inside s (makes k h x) = h
-  inside s opens = omega arith
-  inside s (tuples d k ds e l) = omega arith
   inside s (stores x h v p) = h
-  inside s (pushes x v e) = omega arith
-  inside s (ends v e) = tt
+  inside s _ = omega arith
 
   pop-move : (stack : List 𝒱.Value) (next : 𝒱.Value → List 𝒱.Value → Step 𝒱)
       → ((v : 𝒱.Value) (st : List 𝒱.Value) → Popped stack v st → Move (next v st)) → Move (M.pop 𝒱 at m.marks stack next)

@@ -26,6 +26,8 @@ use lib.Ieee.Fits.{and_l, and_r}
 use Rattle.format.proofs.Limits.{Under, NoRoom, refuses, accepts, short, under-limits}
 use Rattle.std.specs.List.{range_with_len}
 use Rattle.std.proofs.lemmas.Bool.{cases_Bool}
+use Rattle.std.proofs.lemmas.List.{length_push}
+use native.Mathlib.Numerals.{add-one}
 use mathlib.Core.Logic.{inl, inr}
 use Rattle.format.proofs.Table.{entry}
 use Rattle.format.proofs.FreeRun.{free-go, free-skip, pop_ok, close_ok}
@@ -35,14 +37,8 @@ scan-spelled : (quote : ℕ) (escaped : Bool) (k : ℕ) (b r : List ℕ) → T (
 unfolding scan spelled
 scan-spelled quote true k [] r t = absurd t
 scan-spelled quote false k [] r t = rw (is_true (eqb quote quote) (eqb_refl quote), scan) (ap closed_at (sym (add-zero k)))
-scan-spelled quote true k (c ∷ b) r t =
-    let ok = eqb c (code "\\") || eqb c quote in
-    rw (is_true ok (and_l ok (spelled quote false b) t), scan)
-    (scan-spelled quote false (suc k) b r (and_r ok (spelled quote false b) t) ∙ ap closed_at (omega arith))
-scan-spelled quote false k (c ∷ b) r t =
-    let after = eqb c (code "\\") in
-    rw (is_false (eqb c quote) (and_l (not (eqb c quote)) (spelled quote after b) t), scan)
-    (scan-spelled quote after (suc k) b r (and_r (not (eqb c quote)) (spelled quote after b) t) ∙ ap closed_at (omega arith))
+scan-spelled quote true k (c ∷ b) r t = grind (arith, scan-spelled quote false (suc k) b r, and_l, and_r)
+scan-spelled quote false k (c ∷ b) r t = grind (arith, scan-spelled quote (eqb c (code "\\")) (suc k) b r, and_l, and_r)
 
 quoted-spelled : (quote : ℕ) (item : ℕ → Item) (b r : List ℕ) → T (spelled quote false b) → quoted quote item (b ++ quote ∷ r) ≡ item (length b)
 unfolding quoted quoted_item
@@ -126,9 +122,6 @@ read_then : {text mid rest : List ℕ} {m m' m'' : Machine term_values} {at : �
     (p : Reads text mid m m' at) → Reads mid rest m' m'' p.after → Reads text rest m m'' at
 read_then p q = record { after = q.after; goes = p.goes ∙ q.goes; counts = omega (arith, p.counts, q.counts) }
 
-length_snoc : (b : List ℕ) (x : ℕ) → length (b ++ (x ∷ [])) ≡ suc (length b)
-length_snoc b x = omega (arith, length-append b (x ∷ []))
-
 -- the fields of a tuple as the machine holds them
 list_of : Terms → List Term
 list_of T.none = []
@@ -153,7 +146,7 @@ module _ (rest : List ℕ) (st : List Term) (marks : List ℕ) (at : ℕ) where
       → (b : List ℕ) → T (spelled quote false b) → Reads (between quote b rest) rest (state before marks) (state (make b ∷ st) marks) at
   read-quoted quote item make before lexed stepped b t =
       read-item quote (b ++ (quote ∷ [])) 1 (sym (append_assoc b (quote ∷ []) rest))
-      (rw (lexed, quoted-spelled quote item b rest t, stepped, take-append_seam, length_snoc))
+      (rw (lexed, quoted-spelled quote item b rest t, stepped, take-append_seam, length_push, add-one))
 
   read-atom : (b : List ℕ) → T (spelled (code "'") false b) → Reads (between (code "'") b rest) rest (state st marks) (state (T.atom b ∷ st) marks) at
   unfolding stepping
@@ -176,27 +169,24 @@ module _ (rest : List ℕ) (st : List Term) (marks : List ℕ) (at : ℕ) where
       let fits : length b < length (b ++ code "~" ∷ rest) = simp length-append (omega arith) in
       read-item (code "~") (b ++ (code "~" ∷ [])) 1 (sym (append_assoc b (code "~" ∷ []) rest))
       (pop_ok term_values at marks (T.int (pos (length b))) st _ h
-      ∙ rw (lt-leb (length (b ++ code "~" ∷ rest)) (length b) fits, take_binary) (rw (get_or-append_seam, take-append_seam, length_snoc)))
+      ∙ rw (lt-leb (length (b ++ code "~" ∷ rest)) (length b) fits, take_binary) (rw (get_or-append_seam, take-append_seam, length_push, add-one)))
 
   -- a decimal, in front of a byte that is no digit
   read-natural : (stop n : ℕ) → has_class B.digit stop ≡ false → T (in_range (pos n))
       → Reads (natural_on n (stop ∷ rest)) (stop ∷ rest) (state st marks) (state (T.int (pos n) ∷ st) marks) at
   unfolding lex item_of step fresh term_of
-  read-natural stop n d h = of_digits (natural-written n (stop ∷ rest))
-    where
-      of_digits : {text : List ℕ} → Written n (stop ∷ rest) text → Reads text (stop ∷ rest) (state st marks) (state (T.int (pos n) ∷ st) marks) at
-      of_digits w = rw w.splits (read-item w.first w.others 1 refl
-          (rw (w.begins, w.worth 0, zero-add, integer-ends (λ v. pos v) n (length w.others) stop rest d h)))
+  read-natural stop n d h =
+      let w = natural-written n (stop ∷ rest) in
+      rw w.splits (read-item w.first w.others 1 refl (rw (w.begins, w.worth 0, zero-add, integer-ends (λ v. pos v) n (length w.others) stop rest d h)))
 
   read-negative : (stop n : ℕ) → has_class B.digit stop ≡ false → T (in_range (negsuc n))
       → Reads (code "-" ∷ natural_on (suc n) (stop ∷ rest)) (stop ∷ rest) (state st marks) (state (T.int (negsuc n) ∷ st) marks) at
   unfolding stepping has_class negative
-  read-negative stop n d h = of_digits (natural-written (suc n) (stop ∷ rest))
-    where
-      of_digits : {text : List ℕ} → Written (suc n) (stop ∷ rest) text → Reads (code "-" ∷ text) (stop ∷ rest) (state st marks) (state (T.int (negsuc n) ∷ st) marks) at
-      of_digits w = rw w.splits (read-item (code "-") (w.first ∷ w.others) 1 refl
-          (rw (w.begins, negative) (rw (w.worth 1, integer-ends (λ v. neg_ℤ (pos v)) (suc n) (1 + length w.others) stop rest d h)
-          (ap (λ (k : ℕ). go k 1 (state (T.int (negsuc n) ∷ st) marks)) (omega arith)))))
+  read-negative stop n d h =
+      let w = natural-written (suc n) (stop ∷ rest) in
+      rw w.splits (read-item (code "-") (w.first ∷ w.others) 1 refl
+      (rw (w.begins, negative) (rw (w.worth 1, integer-ends (λ v. neg_ℤ (pos v)) (suc n) (1 + length w.others) stop rest d h)
+      (ap (λ (k : ℕ). go k 1 (state (T.int (negsuc n) ∷ st) marks)) (omega arith)))))
 
   read_blank : Reads (code " " ∷ rest) rest (state st marks) (state st marks) at
   unfolding stepping
@@ -234,13 +224,9 @@ unfolding decimal_on
 read-integer (pos n) rest st marks at s = read_then (read-natural rest st marks at (code " ") n no_digit.0 s) (read_blank rest _ marks _)
 read-integer (negsuc n) rest st marks at s = read_then (read-negative rest st marks at (code " ") n no_digit.0 s) (read_blank rest _ marks _)
 
-base-own : (d : ℕ) (marks : List ℕ) → base (d ∷ marks) ≤ d
-unfolding base
-base-own d marks = omega arith
-
 -- a term's text leaves the term on the stack
 mutual
-  unfolding text_on sound_term in_range list_of
+  unfolding text_on sound_term in_range list_of base
 
   read-term : (t : Term) (rest : List ℕ) (st : List Term) (marks : List ℕ) (at : ℕ) → T (sound_term t) → base marks ≤ length st
       → Reads (text_on t rest) rest (state st marks) (state (t ∷ st) marks) at
@@ -252,7 +238,7 @@ mutual
   read-term (T.list ts) rest st marks at s h = read_then (read-hash (items_on ts rest) st marks at) (read_items ts rest st marks _ s h)
   read-term (T.tuple ts) rest st marks at s h =
       read_then (read_open (fields_on ts (code "}" ∷ rest)) st marks at)
-      (read_then (read_fields ts (code "}" ∷ rest) st (length st ∷ marks) _ s (base-own (length st) marks)) (read_close rest st marks _ ts))
+      (read_then (read_fields ts (code "}" ∷ rest) st (length st ∷ marks) _ s (omega arith)) (read_close rest st marks _ ts))
   read-term (T.tag b t) rest st marks at s h =
       read_then (read-term t (between (code "`") b rest) st marks at (and_r (spelled (code "`") false b) (sound_term t) s) h)
       (read-tag rest st marks _ t h b (and_l (spelled (code "`") false b) (sound_term t) s))
@@ -298,9 +284,7 @@ pub read-back_limits : (lim : Limits) (t : Term) → T (sound_term t) → ReadsB
 read-back_limits lim t s = reads (under-limits term_values lim (plain t)) (read_back t s)
   where
     reads : {a : Outcome (Result term_values)} {b : Outcome Term} → Under term_values lim a b → b ≡ accepted (length (plain t)) t → ReadsBack t a
-    reads (refuses n p) e =
-        let never : ◌≡◌ {A = ℕ} 0 1 = cc in
-        absurd (omega arith)
+    reads (refuses n p) e = absurd (cc)
     reads (accepts k res) e =
         let here : k ≡ length (plain t) = cc in
         let root : res.root ≡ t = cc in

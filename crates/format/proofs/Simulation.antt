@@ -33,9 +33,6 @@ bits_hold (negsuc k) h =
     let l : k < 2 ^ 63 = ltb-true k (2 ^ 63) (is_true (ltb k (2 ^ 63)) h) in
     rw (le-ltb (2 ^ 64 - suc k) (2 ^ 63) (omega arith)) (ap negsuc (omega arith))
 
-halves : (w : ℕ) → w / 2 ^ 32 * 2 ^ 32 + w % 2 ^ 32 ≡ w
-halves w = omega arith
-
 module _ (message : List ℕ) where
   -- one row more is one term more
   terms_add : (ts : List Term) (rows : List Row) (r : Row) → terms_after message ts (rows ++ (r ∷ [])) ≡ terms_after message ts rows ++ (term_of_row message (terms_after message ts rows) r ∷ [])
@@ -123,7 +120,7 @@ module _ (message : List ℕ) where
   made_shape : (rows : List Row) {a : Shape ℕ} {b : Shape Term} → Shapes rows a b → Made rows (make_rows a rows) (term_of b)
   unfolding make_rows term_of term_of_row row_integer is_list_kind term_integer term_is_list term_at integer_of_row integer_row span_row nil_row cons_row tag_row
   made_shape rows (integers z h) =
-      let e : from_bits 64 (to_bits 64 z / 2 ^ 32 * 2 ^ 32 + to_bits 64 z % 2 ^ 32) ≡ z = ap (from_bits 64) (halves (to_bits 64 z)) ∙ bits_hold z h in
+      let e : from_bits 64 (to_bits 64 z / 2 ^ 32 * 2 ^ 32 + to_bits 64 z % 2 ^ 32) ≡ z = grind (arith, bits_hold z h) in
       made_one rows (integer_row z) (Te.int z) (record { is = ap Te.int e; same_integer = ap some e; same_list = refl })
   made_shape rows (atoms s b e) = made_one rows _ (Te.atom b) (record { is = ap Te.atom e; same_integer = refl; same_list = refl })
   made_shape rows (strings s b e) = made_one rows _ (Te.string b) (record { is = ap Te.string e; same_integer = refl; same_list = refl })
@@ -282,10 +279,7 @@ module _ (message : List ℕ) where
   unfolding M.bounded
   boundeds lim at used (refuses n p) = refuses n p
   boundeds lim at used (finishes s) = finishes s
-  boundeds lim at used (goes k w l) =
-      conds (ltb lim.rows (used + w)) (refuses 12 at) (λ f.
-      conds-at (ap (ltb lim.stack) (stacks-length l.stacks)) (refuses 13 at)
-      (conds-at (ap (λ (ds : List ℕ). ltb lim.marks (length ds)) l.marks) (refuses 14 at) (goes k w l)))
+  boundeds lim at used (goes k w l) = grind (arith, refuses, goes, l, stacks-length l.stacks, l.marks)
 
   -- what the machine at rows says, with the root's term for the root
   unfoldable pub in_terms : Outcome (Result row_values) → Outcome (Result term_values)

@@ -11,6 +11,8 @@ use lib.ListN.{length, get_or, drop, length-append, get_or-append}
 use lib.Seq.{get_or-append_seam}
 use lib.Dec.{eqb, ltb, T, ltb→lt, leb→le}
 use borrow.Author.Tests.{eqb-true, eqb-false}
+use mathlib.Core.Logic.{inl, inr}
+use Rattle.std.proofs.lemmas.Bool.{cases_eq}
 use Rattle.format.specs.Term as T
 use Rattle.format.specs.Term.{Term, ◌then◌}
 use Rattle.format.specs.Meaning.{items_of}
@@ -114,25 +116,18 @@ module _ (message : List ℕ) where
   judged-from : (earlier rows : List Row) → T (sound_after message earlier rows) → (i : ℕ) → length earlier ≤ i → i < length (earlier ++ rows) → Judged (earlier ++ rows) i
   unfolding sound_after row_at
   judged-from earlier [] h i l u = absurd (omega (arith, length-append earlier []))
-  judged-from earlier (r ∷ rows) h i l u = by (eqb i (length earlier)) refl (λ l' u'. judged-from (earlier ++ (r ∷ [])) rows (and_r own' _ h) i l' u')
-    where
-      own : Bool
-      own = sound_row message (length earlier) r
-
-      own' : Bool
-      own' = own && sound_rest r.kind (row_at earlier r.second).kind
-
-      by : (q : Bool) → eqb i (length earlier) ≡ q
-          → (length (earlier ++ (r ∷ [])) ≤ i → i < length ((earlier ++ (r ∷ [])) ++ rows) → Judged ((earlier ++ (r ∷ [])) ++ rows) i)
-          → Judged (earlier ++ (r ∷ rows)) i
-      by true e more =
-          let at : row_at (earlier ++ (r ∷ rows)) (length earlier) ≡ r = get_or-append_seam earlier r rows (row 0 0 0 0) in
-          let first = and_l own' _ h in
-          rw (eqb-true i (length earlier) e) (record {
-            own = rw at (and_l own _ first);
-            rest = rw at (same_rest earlier (r ∷ rows) r (and_l own _ first) (and_r own _ first));
-          })
-      by false e more = rw append_assoc at (more (omega (arith, eqb-false i (length earlier) e, length-append earlier (r ∷ []))) (rw append_assoc u))
+  judged-from earlier (r ∷ rows) h i l u =
+      let own = sound_row message (length earlier) r in
+      let own' = own && sound_rest r.kind (row_at earlier r.second).kind in
+      elim (cases_eq i (length earlier)) [
+        | inl e ↦
+            let at : row_at (earlier ++ (r ∷ rows)) (length earlier) ≡ r = get_or-append_seam earlier r rows (row 0 0 0 0) in
+            let first = and_l own' _ h in
+            rw e (record { own = rw at (and_l own _ first); rest = rw at (same_rest earlier (r ∷ rows) r (and_l own _ first) (and_r own _ first)) })
+        | inr e ↦
+            rw append_assoc
+            at (judged-from (earlier ++ (r ∷ [])) rows (and_r own' _ h) i (omega (arith, length-append earlier (r ∷ []))) (rw append_assoc u))
+      ]
 
   pub judged : (rows : List Row) → T (sound_rows message rows) → (i : ℕ) → i < length rows → Judged rows i
   unfolding sound_rows
