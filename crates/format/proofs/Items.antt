@@ -82,14 +82,7 @@ integer-ok sign r d h = grind arith
 
 pub quoted-ok : (quote : ℕ) (item : ℕ → Item) (r : List ℕ) → ((k : ℕ) → Quoted quote r k → ItemOk r (item k)) → ItemOk r (quoted quote item r)
 unfolding quoted quoted_item
-quoted-ok quote item r h = closes (scan quote false 0 r) (scan-ok quote false 0 r)
-  where
-    closes : (s : Scan) → ScanOk quote false 0 r s → ItemOk r (quoted_item item s)
-    closes Scan.ended g = tt
-    closes (L.stray_at k) g = omega arith
-    closes (L.closed_at k) g =
-        let e : k ≡ g.far = omega (arith, g.adds) in
-        rw e (h g.far (record { spells = g.spells; inside = g.inside }))
+quoted-ok quote item r h = grind (arith, h, scan-ok quote false 0 r)
 
 negative_ok : (r : List ℕ) → ItemOk r (negative r)
 unfolding negative integer_of

@@ -30,9 +30,7 @@ module _ (𝒱 : Values) (lim : Limits) where
       → ((k w : ℕ) (m : Machine 𝒱) → Under (next k w m) (next' k w m)) → ((v : 𝒱.Value) → Under (end v) (end' v))
       → (s : Step 𝒱) → Under (M.follow 𝒱 (M.bounded 𝒱 lim at used s) next end) (M.follow 𝒱 s next' end')
   unfolding M.follow M.bounded
-  follow-under at used next end next' end' f g (refuse n p) = refuses n p
-  follow-under at used next end next' end' f g (finish v) = g v
-  follow-under at used next end next' end' f g (go k w m) = grind (arith, short 12 at, short 13 at, short 14 at, f k w m)
+  follow-under at used next end next' end' f g s = grind (arith, refuses, short, f, g)
 
   under-from : (s : List ℕ) (skip at used : ℕ) (m : Machine 𝒱) → Under (M.run_from 𝒱 lim s skip at used m) (M.run_free_from 𝒱 s skip at m)
   unfolding M.run_from M.run_free_from
@@ -62,9 +60,7 @@ module _ (𝒱 : Values) (lim : Limits) where
 
   bounded_idle : (at used c : ℕ) (r : List ℕ) (m : Machine 𝒱) (s : Step 𝒱) → Room used m (c ∷ r) → StepAdds 𝒱 m s → M.bounded 𝒱 lim at used s ≡ s
   unfolding M.bounded
-  bounded_idle at used c r m (refuse n p) h a = refl
-  bounded_idle at used c r m (finish v) h a = refl
-  bounded_idle at used c r m (go k w m') h a = grind arith
+  bounded_idle at used c r m s h a = grind arith
 
   -- an answer under limits, without the rows
   unfoldable pub value_only : Outcome (Result 𝒱) → Outcome 𝒱.Value
@@ -76,9 +72,7 @@ module _ (𝒱 : Values) (lim : Limits) where
       → ((k w : ℕ) (m' : Machine 𝒱) → Room (used + w) m' r → value_only (next k w m') ≡ next' k w m') → ((v : 𝒱.Value) → value_only (end v) ≡ end' v)
       → (s : Step 𝒱) → StepAdds 𝒱 m s → value_only (M.follow 𝒱 s next end) ≡ M.follow 𝒱 s next' end'
   unfolding M.follow value_only
-  follow-free used c r m next end next' end' h f g (refuse n p) a = refl
-  follow-free used c r m next end next' end' h f g (finish v) a = g v
-  follow-free used c r m next end next' end' h f g (go k w m') a = f k w m' (omega arith)
+  follow-free used c r m next end next' end' h f g s a = grind (arith, f, g)
 
   free-from : (s : List ℕ) (skip at used : ℕ) (m : Machine 𝒱) → Room used m s → value_only (M.run_from 𝒱 lim s skip at used m) ≡ M.run_free_from 𝒱 s skip at m
   unfolding M.run_from M.run_free_from value_only
@@ -106,9 +100,7 @@ module _ (𝒱 : Values) (lim : Limits) where
       → ((k w : ℕ) (m : Machine 𝒱) → used + w ≤ lim.rows → Holds (next k w m)) → ((v : 𝒱.Value) → Holds (end v))
       → (s : Step 𝒱) → Holds (M.follow 𝒱 (M.bounded 𝒱 lim at used s) next end)
   unfolding M.follow M.bounded
-  follow-holds at used next end f g (refuse n p) = tt
-  follow-holds at used next end f g (finish v) = g v
-  follow-holds at used next end f g (go k w m) = grind (arith, f k w m, ltb-false lim.rows (used + w))
+  follow-holds at used next end f g s = grind (arith, f, g, ltb-false lim.rows)
 
   holds_rows : (s : List ℕ) (skip at used : ℕ) (m : Machine 𝒱) → used ≤ lim.rows → Holds (M.run_from 𝒱 lim s skip at used m)
   unfolding M.run_from

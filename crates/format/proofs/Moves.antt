@@ -134,18 +134,14 @@ module _ (𝒱 : Values) (lim : Limits) (Inv : ℕ → List ℕ → ℕ → Mach
   module _ (at : ℕ) (r : List ℕ) (used : ℕ) (m : Machine 𝒱) where
     next-bounded : (s : Step 𝒱) → Next at r used m s → Next at r used m (M.bounded 𝒱 lim at used s)
     unfolding M.bounded
-    next-bounded (refuse n p) h = h
-    next-bounded (finish v) h = h
-    next-bounded (go k w m') h = grind arith
+    next-bounded s h = grind arith
 
     next-follow : (next : ℕ → ℕ → Machine 𝒱 → Outcome (Result 𝒱)) (end : 𝒱.Value → Outcome (Result 𝒱))
         → ((k w : ℕ) (m' : Machine 𝒱) → Inv (suc at) r (used + w) m' → AtEnd (next k w m'))
         → ((v : 𝒱.Value) → End (suc at) (record { used = used; root = v; memory = m.memory }) → AtEnd (end v))
         → (s : Step 𝒱) → Next at r used m s → AtEnd (M.follow 𝒱 s next end)
     unfolding M.follow
-    next-follow next end f g (refuse n p) h = h
-    next-follow next end f g (go k w m') h = f k w m' h
-    next-follow next end f g (finish v) h = g v h
+    next-follow next end f g s h = grind (arith, f, g)
 
   module _ (pass : (at c : ℕ) (r : List ℕ) (used : ℕ) (m : Machine 𝒱) → Inv at (c ∷ r) used m → Inv (suc at) r used m)
       (keeps : (at c : ℕ) (r : List ℕ) (used : ℕ) (m : Machine 𝒱) → Inv at (c ∷ r) used m → (s : Step 𝒱) → Move 𝒱 at r m s → Next at r used m s) where

@@ -24,17 +24,13 @@ module _ (𝒱 : Values) (lim : Limits) where
   -- 12, 13 and 14 are at the item's first byte
   inside-bounded : (at : ℕ) (r : List ℕ) (used : ℕ) (m : Machine 𝒱) (s : Step 𝒱) → Inside 𝒱 at r m s → Inside 𝒱 at r m (M.bounded 𝒱 lim at used s)
   unfolding M.bounded
-  inside-bounded at r used m (refuse n p) h = h
-  inside-bounded at r used m (finish v) h = h
-  inside-bounded at r used m (go k w m') h = grind arith
+  inside-bounded at r used m s h = grind arith
 
   within-follow : (at : ℕ) (r : List ℕ) (m : Machine 𝒱) (end : ℕ) (next : ℕ → ℕ → Machine 𝒱 → Outcome (Result 𝒱)) (last : 𝒱.Value → Outcome (Result 𝒱))
       → suc at + length r ≤ end → ((k w : ℕ) (m' : Machine 𝒱) → Within end (next k w m')) → ((v : 𝒱.Value) → Within end (last v))
       → (s : Step 𝒱) → Inside 𝒱 at r m s → Within end (M.follow 𝒱 s next last)
   unfolding M.follow
-  within-follow at r m end next last e f g (refuse n p) h = omega arith
-  within-follow at r m end next last e f g (go k w m') h = f k w m'
-  within-follow at r m end next last e f g (finish v) h = g v
+  within-follow at r m end next last e f g s h = grind (arith, f, g)
 
   within-from : (s : List ℕ) (skip at used : ℕ) (m : Machine 𝒱) (end : ℕ) → at + length s ≤ end → Within end (M.run_from 𝒱 lim s skip at used m)
   unfolding M.run_from

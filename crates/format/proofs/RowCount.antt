@@ -19,9 +19,7 @@ module _ (𝒱 : Values) (lim : Limits) where
   FewRows consumed res = res.used ≤ 2 * consumed
 
   few-keeps : (at c : ℕ) (r : List ℕ) (used : ℕ) (m : Machine 𝒱) → Few at (c ∷ r) used m → (s : Step 𝒱) → StepAdds 𝒱 m s → Mv.Next 𝒱 lim Few FewRows at r used m s
-  few-keeps at c r used m h (refuse n p) a = a
-  few-keeps at c r used m h (go k w m') a = omega (arith, a.rows)
-  few-keeps at c r used m h (finish v) a = omega arith
+  few-keeps at c r used m h s a = grind arith
 
   few : (message : List ℕ) → Mv.AtEnd 𝒱 lim Few FewRows (run 𝒱 lim message)
   unfolding M.start

@@ -185,17 +185,13 @@ module _ (message : List ℕ) where
   conds true p q = p
   conds false p q = q refl
 
-  -- the same, where the two machines make their tests of equal things
-  conds-at : {a : Machine row_values} {c c' : Bool} → c ≡ c' → {x y : Step row_values} {x' y' : Step term_values} → Steps a x x' → Steps a y y' → Steps a (cond c x y) (cond c' x' y')
-  conds-at {c = c} e p q = rw (← e) (conds c p (λ f. q))
-
   pops : {a : Machine row_values} (at : ℕ) {ds ds' : List ℕ} → ds ≡ ds' → {vs : List ℕ} {ts : List Term} → Stacks a.memory vs ts
       → {next : ℕ → List ℕ → Step row_values} {next' : Term → List Term → Step term_values}
       → ((v : ℕ) (t : Term) (st : List ℕ) (st' : List Term) → Stands a.memory v t → Stacks a.memory st st' → Steps a (next v st) (next' t st'))
       → Steps a (M.pop row_values at ds vs next) (M.pop term_values at ds' ts next')
   unfolding M.pop
   pops at e empty f = refuses 6 at
-  pops at e (◌on◌ {v} {t} {vs} {ts} s st) f = conds-at (ap₂ ltb (stacks-length st) (ap base e)) (refuses 6 at) (f v t vs ts s st)
+  pops at e (◌on◌ {v} {t} {vs} {ts} s st) f = grind (arith, refuses, f v t vs ts s st, stacks-length st, e)
 
   module _ (at : ℕ) (r : List ℕ) (here : drop (suc at) message ≡ r) {a : Machine row_values} {b : Machine term_values} (l : Like a b) where
     fresh_like : {x : Shape ℕ} {y : Shape Term} → Shapes a.memory x y → {st : List ℕ} {st' : List Term} → Stacks a.memory st st' → {ds ds' : List ℕ} → ds ≡ ds'
@@ -218,17 +214,14 @@ module _ (message : List ℕ) where
         conds (eqb (get_or r n 0) (code "~"))
         (goes (suc n) 1 (fresh_like (binaries (suc at) (take n r) (span n (omega (arith, leb-false (length r) n e)))) st l.marks)) (λ e'. refuses 4 (suc at + n)))
 
-    closes : (ds : List ℕ) → Steps a (M.close_tuple row_values at a ds) (M.close_tuple term_values at b ds)
+    closes : (ds : List ℕ) {ds' : List ℕ} → ds ≡ ds' → Steps a (M.close_tuple row_values at a ds) (M.close_tuple term_values at b ds')
     unfolding M.close_tuple
-    closes [] = refuses 10 at
-    closes (d ∷ ds) =
+    closes [] e = rw (← e) (refuses 10 at)
+    closes (d ∷ ds) e =
         let k : ℕ = length a.stack - d in
-        rw (← stacks-length l.stacks)
+        rw (← e, ← stacks-length l.stacks)
         (conds (ltb (length a.stack) d) (refuses 17 at) (λ f.
         goes 0 (suc k) (fresh_like (tuples (stacks-reverse (stacks-take k l.stacks) empty)) (stacks-drop k l.stacks) refl)))
-
-    closes_at : {ds ds' : List ℕ} → ds ≡ ds' → Steps a (M.close_tuple row_values at a ds) (M.close_tuple term_values at b ds')
-    closes_at {ds} e = rw (← e) (closes ds)
 
     pushes : {o : Option ℕ} {p : Option Term} → Options a.memory o p → Steps a (M.push_register row_values at a o) (M.push_register term_values at b p)
     unfolding M.push_register
@@ -241,13 +234,10 @@ module _ (message : List ℕ) where
     onlys (s on empty) = finishes s
     onlys (s on s' on st) = refuses 11 at
 
-    ends : (ds : List ℕ) → Steps a (M.end_message row_values at a ds) (M.end_message term_values at b ds)
+    ends : (ds : List ℕ) {ds' : List ℕ} → ds ≡ ds' → Steps a (M.end_message row_values at a ds) (M.end_message term_values at b ds')
     unfolding M.end_message
-    ends [] = onlys l.stacks
-    ends (d ∷ ds) = refuses 10 at
-
-    ends_at : {ds ds' : List ℕ} → ds ≡ ds' → Steps a (M.end_message row_values at a ds) (M.end_message term_values at b ds')
-    ends_at {ds} e = rw (← e) (ends ds)
+    ends [] e = rw (← e) (onlys l.stacks)
+    ends (d ∷ ds) e = rw (← e) (refuses 10 at)
 
     sets : (x : ℕ) {v : ℕ} {t : Term} → Stands a.memory v t → (y : ℕ) → Options a.memory (M.set_register row_values x v a.registers y) (M.set_register term_values x t b.registers y)
     unfolding M.set_register
@@ -263,12 +253,12 @@ module _ (message : List ℕ) where
         goes (suc k) 1 (fresh_like (tags (suc at) (take k r) (span k (omega (arith, h.inside))) s) ss l.marks))
     steps (L.integer_item z k) h = goes k 1 (fresh_like (integers z h.0) l.stacks l.marks)
     steps L.open_item h = goes 0 0 (record { stacks = l.stacks; marks = ap₂ ◌∷◌ (stacks-length l.stacks) l.marks; registers = l.registers })
-    steps L.close_item h = closes_at l.marks
+    steps L.close_item h = closes a.marks l.marks
     steps L.tilde_item h = pops at l.marks l.stacks (λ v t st st' s ss. rw s.same_integer (binaries-take ss (term_integer t)))
     steps L.hash_item h = goes 0 1 (fresh_like nils l.stacks l.marks)
     steps L.ampersand_item h = pops at l.marks l.stacks (λ v t mid mid' s ss. pops at l.marks ss (λ v' t' st st' s' ss'.
         rw s'.same_list (conds (term_is_list t') (goes 0 1 (fresh_like (conses s s') ss' l.marks)) (λ f. refuses 7 at))))
-    steps L.end_item h = ends_at l.marks
+    steps L.end_item h = ends a.marks l.marks
     steps (L.store_item x) h = pops at l.marks l.stacks (λ v t st st' s ss. goes 1 0 (record { stacks = ss; marks = l.marks; registers = sets x s }))
     steps (L.push_item x) h = pushes (l.registers x)
     steps L.cut h = refuses 3 (suc at + length r)

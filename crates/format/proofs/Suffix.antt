@@ -216,9 +216,7 @@ module _ (𝒱 : Values) where
     -- the limits leave refusals as they are and far steps far
     bounded-far : (j at used : ℕ) (s : Step 𝒱) → FarStep j s → FarStep j (M.bounded 𝒱 lim at used s)
     unfolding M.bounded
-    bounded-far j at used (refuse n p) h = tt
-    bounded-far j at used (finish v) h = absurd h
-    bounded-far j at used (go k w m) h = grind arith
+    bounded-far j at used s h = grind arith
 
     run-far : (n : ℕ) (r : List ℕ) (skip at used : ℕ) (m : Machine 𝒱) → n ≤ at + skip → FarRun n (M.run_from 𝒱 lim r skip at used m)
     unfolding M.run_from
