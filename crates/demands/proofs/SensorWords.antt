@@ -21,7 +21,7 @@ use Rattle.std.specs.Prelude.{Result, Ok, Err}
 use Rattle.format.specs.Number.{number_of}
 use Rattle.format.specs.declared.Row.{Row}
 use Rattle.format.proofs.Decoded.{accepts}
-use Rattle.format.proofs.Simulation.{terms_length}
+use Rattle.format.proofs.TableRows.{terms_length}
 use Rattle.format.proofs.TableRows.{length-rows, passed}
 use lib.Ieee.Bits.{is_true}
 use Rattle.format.specs.declared.refusal.Refusal.{Refusal}

@@ -23,6 +23,7 @@ use Rattle.format.specs.Machine as M
 use Rattle.format.specs.Machine.{Machine, Shape, Step, Outcome, Result, Limits, base, refuse, go, finish, refused, accepted, run}
 use lib.Ieee.Bits.{is_true}
 use Rattle.format.proofs.Lists.{drop-next}
+use Rattle.format.proofs.TableRows.{terms_append, terms_length}
 use Rattle.format.proofs.Items.{ItemOk, lex-ok}
 
 -- 64 bits hold every integer in range
@@ -34,17 +35,6 @@ bits_hold (negsuc k) h =
     rw (le-ltb (2 ^ 64 - suc k) (2 ^ 63) (omega arith)) (ap negsuc (omega arith))
 
 module _ (message : List ℕ) where
-  -- one row more is one term more
-  terms_add : (ts : List Term) (rows : List Row) (r : Row) → terms_after message ts (rows ++ (r ∷ [])) ≡ terms_after message ts rows ++ (term_of_row message (terms_after message ts rows) r ∷ [])
-  unfolding terms_after
-  terms_add ts [] r = refl
-  terms_add ts (x ∷ rows) r = terms_add (ts ++ (term_of_row message ts x ∷ [])) rows r
-
-  pub terms_length : (ts : List Term) (rows : List Row) → length (terms_after message ts rows) ≡ length ts + length rows
-  unfolding terms_after
-  terms_length ts [] = sym (add-zero (length ts))
-  terms_length ts (x ∷ rows) = terms_length (ts ++ (term_of_row message ts x ∷ [])) rows ∙ omega (arith, length-append ts (term_of_row message ts x ∷ []))
-
   -- row v stands for t, and both machines see the same of it
   record Stands (rows : List Row) (v : ℕ) (t : Term) : Type 0 where
     inside : v < length rows
@@ -59,21 +49,21 @@ module _ (message : List ℕ) where
     same_list : is_list_kind r.kind ≡ term_is_list t
 
   stands-still : (rows : List Row) (r : Row) {v : ℕ} {t : Term} → Stands rows v t → Stands (rows ++ (r ∷ [])) v t
-  unfolding term_at row_at
+  unfolding term_at row_at terms_after
   stands-still rows r {v} s =
       let same : get_or (rows ++ (r ∷ [])) v (row 0 0 0 0) ≡ get_or rows v (row 0 0 0 0) = get_or-append rows (r ∷ []) (row 0 0 0 0) v s.inside in
       record {
         inside = omega (arith, length-append rows (r ∷ []), s.inside);
-        is = rw terms_add (get_or-append (terms_after message [] rows) _ no_term v (omega (arith, terms_length [] rows, s.inside)) ∙ s.is);
+        is = rw (terms_append message) (get_or-append (terms_after message [] rows) _ no_term v (omega (arith, terms_length message [] rows, s.inside)) ∙ s.is);
         same_integer = rw same s.same_integer;
         same_list = rw same s.same_list;
       }
 
   stands_new : (rows : List Row) (r : Row) (t : Term) → Spells rows r t → Stands (rows ++ (r ∷ [])) (length rows) t
-  unfolding term_at row_at
+  unfolding term_at row_at terms_after
   stands_new rows r t s = record {
     inside = omega (arith, length-append rows (r ∷ []));
-    is = rw terms_add (get_or_at (terms_after message [] rows) _ [] no_term (length rows) (omega (arith, terms_length [] rows)) ∙ s.is);
+    is = rw (terms_append message) (get_or_at (terms_after message [] rows) _ [] no_term (length rows) (omega (arith, terms_length message [] rows)) ∙ s.is);
     same_integer = rw get_or-append_seam s.same_integer;
     same_list = rw get_or-append_seam s.same_list;
   }

@@ -7,8 +7,8 @@ use mathlib.Core.Bool.{Bool, true, false, ◌&&◌}
 use mathlib.Core.List.{List, [], ◌∷◌, ◌++◌, append_assoc}
 use native.Mathlib.Nat.{add-zero, zero-add}
 use native.Mathlib.Omega.{arith}
-use lib.ListN.{length, get_or, drop, length-append, get_or-append}
-use lib.Seq.{get_or-append_seam}
+use lib.ListN.{length, get_or, take, drop, length-append, get_or-append}
+use lib.Seq.{get_or-append_seam, get_or_at, length-take-le, split_at}
 use lib.Dec.{eqb, ltb, T, ltb→lt, leb→le}
 use borrow.Author.Tests.{eqb-true, eqb-false}
 use mathlib.Core.Logic.{inl, inr}
@@ -35,15 +35,7 @@ pub record Passed (message words : List ℕ) (used root : ℕ) : Type 0 where
 
 pub passed : (message words : List ℕ) (used root : ℕ) → T (sound_table message words used root) → Passed message words used root
 unfolding sound_table count_fits root_among
-passed message words used root h =
-    let count = count_fits words used in
-    let claims = count && root_among used root in
-    let claimed = and_l claims (sound_rows message (rows_of used words)) h in
-    record {
-      fits = leb→le used (row_room words) (and_l count (root_among used root) claimed);
-      among = ltb→lt root used (and_r count (root_among used root) claimed);
-      rows = and_r claims (sound_rows message (rows_of used words)) h;
-    }
+passed message words used root h = search (and_l, and_r, leb→le)
 
 module _ (message : List ℕ) where
   -- a span that is spelled as between quotes lies in the slice
@@ -75,8 +67,7 @@ module _ (message : List ℕ) where
 
     -- a list cell, or a tuple's field
     cell-earlier : T (eqb r.third 0 && ltb r.first i && ltb r.second i) → (r.first < i) × (r.second < i)
-    cell-earlier h =
-        (ltb→lt r.first i (and_r (eqb r.third 0) _ (and_l (eqb r.third 0 && ltb r.first i) _ h)), ltb→lt r.second i (and_r (eqb r.third 0 && ltb r.first i) _ h))
+    cell-earlier h = search (and_l, and_r, ltb→lt)
 
     pub cons-earlier : r.kind ≡ cons_kind → (r.first < i) × (r.second < i)
     unfolding sound_row
@@ -133,11 +124,16 @@ module _ (message : List ℕ) where
   unfolding sound_rows
   judged rows h i l = judged-from [] rows h i (omega arith) l
 
-  -- the terms us are those of the rows before i
-  record Before (ts : List Term) (rows : List Row) (i : ℕ) : Type 0 where
-    us : List Term
-    made : get_or (terms_after message ts rows) (length ts + i) no_term ≡ term_of_row message us (row_at rows i)
-    same : (j : ℕ) → j < length ts + i → get_or us j no_term ≡ get_or (terms_after message ts rows) j no_term
+  -- the terms of rows, and of rows after them
+  pub terms_append : (ts : List Term) (rows more : List Row) → terms_after message ts (rows ++ more) ≡ terms_after message (terms_after message ts rows) more
+  unfolding terms_after
+  terms_append ts [] more = refl
+  terms_append ts (r ∷ rows) more = terms_append (ts ++ (term_of_row message ts r ∷ [])) rows more
+
+  pub terms_length : (ts : List Term) (rows : List Row) → length (terms_after message ts rows) ≡ length ts + length rows
+  unfolding terms_after
+  terms_length ts [] = omega arith
+  terms_length ts (r ∷ rows) = omega (arith, terms_length (ts ++ (term_of_row message ts r ∷ [])) rows, length-append ts (term_of_row message ts r ∷ []))
 
   terms_kept : (ts : List Term) (rows : List Row) (j : ℕ) → j < length ts → get_or (terms_after message ts rows) j no_term ≡ get_or ts j no_term
   unfolding terms_after
@@ -145,23 +141,6 @@ module _ (message : List ℕ) where
   terms_kept ts (r ∷ rows) j h =
       terms_kept (ts ++ (term_of_row message ts r ∷ [])) rows j (omega (arith, length-append ts (term_of_row message ts r ∷ [])))
       ∙ get_or-append ts (term_of_row message ts r ∷ []) no_term j h
-
-  before : (ts : List Term) (rows : List Row) (i : ℕ) → i < length rows → Before ts rows i
-  unfolding terms_after row_at
-  before ts [] i h = absurd (omega arith)
-  before ts (r ∷ rows) zero h =
-      let more = ts ++ (term_of_row message ts r ∷ []) in
-      let l : length more ≡ length ts + 1 = length-append ts (term_of_row message ts r ∷ []) in
-      record {
-        us = ts;
-        made = rw add-zero (terms_kept more rows (length ts) (omega arith) ∙ get_or-append_seam ts (term_of_row message ts r) [] no_term);
-        same = λ j g. sym (terms_kept more rows j (omega arith) ∙ get_or-append ts (term_of_row message ts r ∷ []) no_term j (omega arith));
-      }
-  before ts (r ∷ rows) (suc i) h =
-      let more = ts ++ (term_of_row message ts r ∷ []) in
-      let b = before more rows i (omega arith) in
-      let l : length more + i ≡ length ts + suc i = omega (arith, length-append ts (term_of_row message ts r ∷ [])) in
-      record { us = b.us; made = rw l at b.made; same = λ j g. b.same j (omega arith) }
 
   -- the term of row i, by its kind
   module _ (rows : List Row) (i : ℕ) (l : i < length rows) where
@@ -174,16 +153,28 @@ module _ (message : List ℕ) where
     abbrev span : List ℕ
     span = span_of message r.first r.second
 
-    b : Before [] rows i
-    b = before [] rows i l
+    -- the terms of the rows before it
+    abbrev us : List Term
+    us = terms_after message [] (take i rows)
 
-    made : term i ≡ term_of_row message b.us r
-    unfolding term_at
-    made = rw zero-add at b.made
+    count : length us ≡ i
+    count = omega (arith, terms_length [] (take i rows), length-take-le i rows (omega arith))
 
-    earlier : (j : ℕ) → j < i → get_or b.us j no_term ≡ term j
+    all : terms_after message [] rows ≡ terms_after message (us ++ (term_of_row message us r ∷ [])) (drop (suc i) rows)
+    unfolding terms_after row_at
+    all = ap (terms_after message []) (split_at rows i (row 0 0 0 0) l) ∙ terms_append [] (take i rows) (r ∷ drop (suc i) rows)
+
+    made : term i ≡ term_of_row message us r
     unfolding term_at
-    earlier j h = b.same j (rw zero-add h)
+    made =
+        rw all (terms_kept (us ++ (term_of_row message us r ∷ [])) (drop (suc i) rows) i (omega (arith, count, length-append us (term_of_row message us r ∷ [])))
+        ∙ get_or_at us (term_of_row message us r) [] no_term i count)
+
+    earlier : (j : ℕ) → j < i → get_or us j no_term ≡ term j
+    unfolding term_at
+    earlier j h =
+        rw all (sym (terms_kept (us ++ (term_of_row message us r ∷ [])) (drop (suc i) rows) j (omega (arith, count, length-append us (term_of_row message us r ∷ [])))
+        ∙ get_or-append us (term_of_row message us r ∷ []) no_term j (omega (arith, count))))
 
     pub integer-term : r.kind ≡ integer_kind → term i ≡ T.int (integer_of_row r)
     unfolding term_of_row
