@@ -63,46 +63,24 @@ abbrev DigitsOk : ℕ → List ℕ → Digits → Type 0
 DigitsOk j r L.unfinished = Unit {0}
 DigitsOk j r (L.value v k) = k ≤ j + length r
 
-digits_more : (j c : ℕ) (r : List ℕ) (d : Digits) → DigitsOk (suc j) r d → DigitsOk j (c ∷ r) d
-digits_more j c r L.unfinished h = tt
-digits_more j c r (L.value v k) h = omega arith
-
 digits-ok : (v j : ℕ) (r : List ℕ) → DigitsOk j r (digits v j r)
 unfolding digits
 digits-ok v j [] = tt
 digits-ok v j (c ∷ r) = grind (arith, digits-ok (v * 10 + (c - code "0")) (suc j) r)
 
-cond-ok : (r : List ℕ) (b : Bool) (x y : Item) → (T b → ItemOk r x) → ItemOk r y → ItemOk r (cond b x y)
-cond-ok r true x y p q = p tt
-cond-ok r false x y p q = q
-
-integer-ok : (sign : ℕ → ℤ) (r : List ℕ) (d : Digits) → DigitsOk 0 r d → ItemOk r (integer_of sign d)
-unfolding integer_of
-integer-ok sign r d h = grind arith
-
 pub quoted-ok : (quote : ℕ) (item : ℕ → Item) (r : List ℕ) → ((k : ℕ) → Quoted quote r k → ItemOk r (item k)) → ItemOk r (quoted quote item r)
 unfolding quoted quoted_item
 quoted-ok quote item r h = grind (arith, h, scan-ok quote false 0 r)
 
-negative_ok : (r : List ℕ) → ItemOk r (negative r)
-unfolding negative integer_of
-negative_ok [] = tt
-negative_ok (c ∷ r) = grind (arith, digits-ok (c - code "0") 1 r)
-
-store_ok : (r : List ℕ) → ItemOk r (store r)
-unfolding store
-store_ok [] = tt
-store_ok (c ∷ r) = grind arith
-
 item_ok : (k : Class) (c : ℕ) (r : List ℕ) → ItemOk r (item_of k c r)
-unfolding item_of
-item_ok B.digit c r = integer-ok (λ v. pos v) r (digits (c - code "0") 0 r) (digits-ok (c - code "0") 0 r)
-item_ok B.minus c r = negative_ok r
+unfolding item_of integer_of negative store
+item_ok B.digit c r = grind (arith, digits-ok)
+item_ok B.minus c r = grind (arith, digits-ok)
 item_ok B.atom_quote c r = quoted-ok (code "'") L.atom_item r (λ k m. m)
 item_ok B.string_quote c r = quoted-ok (code "\"") L.string_item r (λ k m. m)
 item_ok B.tag_quote c r = quoted-ok (code "`") L.tag_item r (λ k m. m)
 item_ok B.comment_quote c r = quoted-ok (code "%") L.comment_item r (λ k m. m.inside)
-item_ok B.greater c r = store_ok r
+item_ok B.greater c r = grind arith
 item_ok B.comma c r = omega arith
 item_ok _ c r = tt
 

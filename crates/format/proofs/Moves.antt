@@ -70,37 +70,15 @@ module _ (𝒱 : Values) (at : ℕ) (r : List ℕ) (m : Machine 𝒱) where
 
   binary-move : (v : 𝒱.Value) (st : List 𝒱.Value) → Popped m.stack v st → (o : Option ℤ) → 𝒱.integer_in m.memory v ≡ o → Move (M.take_binary 𝒱 at r m st o)
   unfolding M.take_binary
-  binary-move v st p none e = stops 7 at (omega arith) (omega arith)
-  binary-move v st p (some (negsuc n)) e = stops 8 at (omega arith) (omega arith)
-  binary-move v st p (some (pos n)) e = grind (arith, stops 3, stops 4, makes (suc n), binaries n v p e, leb-false (length r) n)
-
-  cons-move : (v l : 𝒱.Value) (mid st : List 𝒱.Value) → Popped m.stack v mid → Popped mid l st → Move (M.cons_list 𝒱 at m v l st)
-  unfolding M.cons_list
-  cons-move v l mid st p q = grind (arith, stops 7 at, makes 0, conses v l p q)
+  binary-move v st p o e = grind (arith, stops 3, stops 4, stops 7 at, stops 8 at, makes, binaries, leb-false (length r))
 
   close_move : (ds : List ℕ) → m.marks ≡ ds → Move (M.close_tuple 𝒱 at m ds)
   unfolding M.close_tuple
   close_move [] e = stops 10 at (omega arith) (omega arith)
   close_move (d ∷ ds) e = grind (arith, stops 17 at, tuples d (length m.stack - d) ds e, ltb-false (length m.stack) d)
 
-  push_move : (x : ℕ) (o : Option 𝒱.Value) → m.registers x ≡ o → Move (M.push_register 𝒱 at m o)
-  unfolding M.push_register
-  push_move x none e = stops 9 at (omega arith) (omega arith)
-  push_move x (some v) e = pushes x v e
-
-  only_move : (st : List 𝒱.Value) → m.stack ≡ st → Move (M.only_value 𝒱 at st)
-  unfolding M.only_value
-  only_move [] e = stops 11 at (omega arith) (omega arith)
-  only_move (v ∷ []) e = ends v e
-  only_move (v ∷ w ∷ st) e = stops 11 at (omega arith) (omega arith)
-
-  end-move : (ds : List ℕ) → Move (M.end_message 𝒱 at m ds)
-  unfolding M.end_message
-  end-move [] = only_move m.stack refl
-  end-move (d ∷ ds) = stops 10 at (omega arith) (omega arith)
-
   pub move : (i : Item) → ItemOk r i → Move (M.step 𝒱 at r m i)
-  unfolding M.step
+  unfolding M.step M.cons_list M.push_register M.only_value M.end_message
   move L.white_item h = rests 0 (omega arith)
   move (L.comment_item k) h = rests (suc k) h
   move (L.atom_item k) h = makes (suc k) h.inside (atoms k h)
@@ -111,10 +89,10 @@ module _ (𝒱 : Values) (at : ℕ) (r : List ℕ) (m : Machine 𝒱) where
   move L.close_item h = close_move m.marks refl
   move L.tilde_item h = pop-move m.stack _ (λ v st p. binary-move v st p (𝒱.integer_in m.memory v) refl)
   move L.hash_item h = makes 0 (omega arith) nils
-  move L.ampersand_item h = pop-move m.stack _ (λ v mid p. pop-move mid _ (λ l st q. cons-move v l mid st p q))
-  move L.end_item h = end-move m.marks
+  move L.ampersand_item h = pop-move m.stack _ (λ v mid p. pop-move mid _ (λ l st q. grind (arith, stops 7 at, makes 0, conses v l p q)))
+  move L.end_item h = grind (arith, stops 10 at, stops 11 at, ends)
   move (L.store_item x) h = pop-move m.stack _ (λ v st p. stores x h v p)
-  move (L.push_item x) h = push_move x (m.registers x) refl
+  move (L.push_item x) h = grind (arith, stops 9 at, pushes)
   move L.cut h = stops 3 (suc at + length r) (omega arith) (omega arith)
   move (L.stray k) h = stops 4 (at + k) (omega arith) (omega arith)
   move L.too_large h = stops 5 at (omega arith) (omega arith)

@@ -46,11 +46,7 @@ module _ (message : List ℕ) where
   after-add : (earlier rows : List Row) (r : Row) → T (sound_after message earlier rows) → Fits (earlier ++ rows) r → T (sound_after message earlier (rows ++ (r ∷ [])))
   unfolding sound_after
   after-add earlier [] r h g = and_i (sound_row message (length earlier) r && sound_rest r.kind (row_at earlier r.second).kind) true (rw append-nil at g) tt
-  after-add earlier (x ∷ rows) r h g =
-      let own = sound_row message (length earlier) x && sound_rest x.kind (row_at earlier x.second).kind in
-      let tail = sound_after message (earlier ++ (x ∷ [])) rows in
-      and_i own (sound_after message (earlier ++ (x ∷ [])) (rows ++ (r ∷ []))) (and_l own tail h)
-      (after-add (earlier ++ (x ∷ [])) rows r (and_r own tail h) (rw append_assoc g))
+  after-add earlier (x ∷ rows) r h g = grind (arith, and_l, and_r, and_i, append_assoc earlier (x ∷ []) rows, after-add (earlier ++ (x ∷ [])) rows r)
 
   -- rows with n more, all sound, the last of them being row p .1
   record Grown (rows : List Row) (n : ℕ) (p : List Row × ℕ) : Type 0 where
@@ -139,9 +135,6 @@ module _ (message : List ℕ) where
     popped : {stack : List ℕ} {v : ℕ} {st : List ℕ} → Below (length m.memory) stack → Popped row_values at r m stack v st → (v < length m.memory) × Below (length m.memory) st
     popped {v = v} {st = st} h p = let b = subst (Below (length m.memory)) p.splits h in (All-head (Low (length m.memory)) v st b, All-tail (Low (length m.memory)) v st b)
 
-    earlier : (v : ℕ) → v < length m.memory → T (ltb v (length m.memory))
-    earlier v h = lt→ltb v (length m.memory) h
-
     one_row : (x : Row) → T (sound_row message (length m.memory) x) → T (sound_rest x.kind (row_at m.memory x.second).kind) → Grown m.memory 1 (add m.memory x)
     one_row x h g = grown_one m.memory x k.sound (and_i (sound_row message (length m.memory) x) _ h g)
 
@@ -156,10 +149,10 @@ module _ (message : List ℕ) where
     made (Mv.conses v l p q t) =
         let a = popped k.stack p in
         let b = popped a.1 q in
-        (b.1, one_row (cons_row v l) (and_i (ltb v (length m.memory)) _ (earlier v a.0) (earlier l b.0)) (subst T (sym t) tt))
+        (b.1, one_row (cons_row v l) (and_i (ltb v (length m.memory)) _ (lt→ltb v _ a.0) (lt→ltb l _ b.0)) (subst T (sym t) tt))
     made (Mv.tags n v p h) =
         let a = popped k.stack p in
-        (a.1, one_row _ (and_i (spelled_in message (code "`") (suc at) (length (take n r))) _ (span-spelled (code "`") n h) (earlier v a.0)) tt)
+        (a.1, one_row _ (and_i (spelled_in message (code "`") (suc at) (length (take n r))) _ (span-spelled (code "`") n h) (lt→ltb v _ a.0)) tt)
 
     -- the same rows, no row more
     still : {m' : Machine row_values} → m'.memory ≡ m.memory → Below (length m.memory) m'.stack → ((x : ℕ) → BelowIf (length m.memory) (m'.registers x)) → Kept (suc at) r (used + 0) m'
