@@ -72,9 +72,7 @@ module _ (message : List ℕ) (t : Tables) where
       let room : res.used ≤ row_room t.rows = rows_fit row_values (limits_of t) message consumed res e in
       let same : length words ≡ length t.rows = rows-length t.rows res.memory (omega (arith, a.count)) in
       let lies : rows_of res.used words ≡ res.memory = rw (← a.count) (rows_in_lem t.rows res.memory) in
-      and_i (leb res.used (row_room words) && ltb res.root res.used) (sound_rows message (rows_of res.used words))
-      (and_i (leb res.used (row_room words)) (ltb res.root res.used) (le→leb res.used (row_room words) (rw same room)) (lt→ltb res.root res.used a.root))
-      (rw lies a.sound)
+      grind (arith, and_i, le→leb, lt→ltb, room, same, lies, a.sound, a.root)
 
   module _ (z : (decode_answer message t).number ≡ 0) where
     -- the table that an accepted message leaves is not refused by 16

@@ -156,10 +156,6 @@ module _ (message : List ℕ) where
   options_grow g nones = nones
   options_grow g (somes {v} {t} s) = somes (g v t s)
 
-  options_cond : {rows : List Row} (c : Bool) {x y : Option ℕ} {x' y' : Option Term} → Options rows x x' → Options rows y y' → Options rows (cond c x y) (cond c x' y')
-  options_cond true p q = p
-  options_cond false p q = q
-
   -- the two machines in step
   record Like (a : Machine row_values) (b : Machine term_values) : Type 0 where
     stacks : Stacks a.memory a.stack b.stack
@@ -231,7 +227,7 @@ module _ (message : List ℕ) where
 
     sets : (x : ℕ) {v : ℕ} {t : Term} → Stands a.memory v t → (y : ℕ) → Options a.memory (M.set_register row_values x v a.registers y) (M.set_register term_values x t b.registers y)
     unfolding M.set_register
-    sets x s y = options_cond (eqb y x) (somes s) (l.registers y)
+    sets x s y = grind (arith, somes s, l.registers y)
 
     steps : (i : Item) → ItemOk r i → Steps a (M.step row_values at r a i) (M.step term_values at r b i)
     unfolding M.step M.cons_list
@@ -286,11 +282,7 @@ module _ (message : List ℕ) where
       follows (boundeds lim at used (steps at r (drop-next message at e) l (lex c r) (lex-ok c r))) _ _
       (λ k w a' b' l'. runs lim r k (suc at) (used + w) (drop-next message at e) l') (suc at) used
 
-  start_like : Like (M.start row_values) (M.start term_values)
-  unfolding M.start
-  start_like = record { stacks = empty; marks = refl; registers = λ x. nones }
-
   -- the same refusal at the same place, or the same bytes consumed and rows used, and the root row stands for the term
   pub same_answer : (lim : Limits) → in_terms (run row_values lim message) ≡ run term_values lim message
-  unfolding run
-  same_answer lim = runs lim message 0 0 0 refl start_like
+  unfolding run M.start
+  same_answer lim = runs lim message 0 0 0 refl (record { stacks = empty; marks = refl; registers = λ x. nones })
