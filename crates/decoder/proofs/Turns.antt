@@ -22,7 +22,10 @@ use Rattle.format.specs.declared.Row.{Row as RowNumber}
 use Rattle.format.proofs.Items.{lex-ok}
 use Rattle.format.proofs.Moves as Mv
 use Rattle.format.proofs.Moves.{move, Inside, inside}
-use Rattle.format.proofs.SoundRows.{Below, Kept, Accepted, keeps, start-kept}
+use mathlib.Core.Logic.{inl, inr}
+use Rattle.std.proofs.lemmas.Bool.{cases_eq}
+use Rattle.std.proofs.lemmas.List.Elements.{All-head, All-tail}
+use Rattle.format.proofs.SoundRows.{Low, Below, Kept, Accepted, keeps, start-kept}
 use Rattle.format.proofs.Decoded.{rows_in_lem}
 use Rattle.format.proofs.TableRows.{length-rows}
 use Rattle.table.specs.Words.{last_first}
@@ -62,14 +65,10 @@ module _ (lim : Limits) (at used : ℕ) where
 below_at : (n : ℕ) (words : List ℕ) (d : ℕ) → Below n (last_first words d) → (i : ℕ) → i < d → get_or words i 0 < n
 unfolding last_first
 below_at n words zero h i l = absurd (omega arith)
-below_at n words (suc d) h i l = by (ltb i d) refl (λ g. below_at n words d h.1 i g)
-  where
-    by : (q : Bool) → ltb i d ≡ q → (i < d → get_or words i 0 < n) → get_or words i 0 < n
-    by true e f = f (ltb-true _ _ e)
-    by false e f =
-        let past = ltb-false i d e in
-        let same : i ≡ d = omega arith in
-        rw same h.0
+below_at n words (suc d) h i l = elim (cases_eq i d) [
+  | inl e ↦ rw e (All-head (Low n) _ (last_first words d) h)
+  | inr e ↦ below_at n words d (All-tail (Low n) _ (last_first words d) h) i (omega arith)
+]
 
 -- an answer that goes on, read off the machine's step
 record Went (t : Tables) (s : State) (t' : Tables) (s' : State) (x : Step row_values) : Type 0 where

@@ -36,13 +36,11 @@ record Left (t : Tables) (d : A.Decoded) : Type 0 where
 
 answer-left : (message : List ℕ) (t : Tables) → Left t (decode_answer message t)
 unfolding decode_answer decode_refusal decode_result
-answer-left message t = by (over_bound message) (ltb (length t.registers) register_words) (run row_values (limits_of t) message) refl
+answer-left message t = by (run row_values (limits_of t) message) refl
   where
-    by : (b c : Bool) (o : Outcome (M.Result row_values)) → run row_values (limits_of t) message ≡ o → Left t (cond b (decode_refusal 1 0 t) (cond c (decode_refusal 2 0 t) (decode_result t o)))
-    by true c o e = record { untouched = λ u h. refl; zero = λ h. absurd (omega arith) }
-    by false true o e = record { untouched = λ u h. refl; zero = λ h. absurd (omega arith) }
-    by false false (refused n p) e = record { untouched = λ u h. absurd (omega (arith, machine-number row_values (limits_of t) message n p e)); zero = λ h. refl }
-    by false false (accepted k r) e = record { untouched = λ u h. absurd (omega (arith, (accepted-rows message (limits_of t) k r e).root)); zero = λ h. absurd (omega arith) }
+    by : (o : Outcome (M.Result row_values)) → run row_values (limits_of t) message ≡ o → Left t (decode_answer message t)
+    by (refused n p) e = record { untouched = λ u h. grind (arith, machine-number row_values (limits_of t) message n p e); zero = λ h. grind arith }
+    by (accepted k r) e = record { untouched = λ u h. grind (arith, (accepted-rows message (limits_of t) k r e).root); zero = λ h. grind arith }
 
 pub demand1 : (message : List ℕ) (t : Tables) (r : Result Accepted Refused) (u : Tables) → decoded_as r u ≡ decode_answer message t → DecodeTouches t r u
 unfolding decoded_as decode_refusal
@@ -58,7 +56,7 @@ refused-left scratch output x scratch' output' o u z = record {
   untouched = λ y q h. let e : x ≡ y = cc in u (rw e h);
   zero = λ y q h. let e : x ≡ y = cc in z (rw e h);
   zero_after = λ m q. cc;
-  past = λ m q. let never : ◌≡◌ {A = ℕ} 0 1 = cc in absurd (omega arith);
+  past = λ m q. absurd (cc);
 }
 
 -- `write` wrote n bytes, those of a text
@@ -77,25 +75,13 @@ pub demand1_write : (message words : List ℕ) (used root : ℕ) (scratch output
 unfolding written_as write_refusal
 demand1_write message words used root scratch output r scratch' output' promise = by r (writes message words used root scratch output) promise
   where
-    number : {a b : A.Written} → a ≡ b → a.number ≡ b.number
-    number e = ap (λ (w : A.Written). w.number) e
-
-    bytes : {a b : A.Written} → a ≡ b → a.bytes ≡ b.bytes
-    bytes e = ap (λ (w : A.Written). w.bytes) e
-
-    scratches : {a b : A.Written} → a ≡ b → a.scratch ≡ b.scratch
-    scratches e = ap (λ (w : A.Written). w.scratch) e
-
-    outputs : {a b : A.Written} → a ≡ b → a.output ≡ b.output
-    outputs e = ap (λ (w : A.Written). w.output) e
-
     by : (r : Result ℕ Refusal) {a : A.Written} → Writes message words used root scratch output a → written_as r scratch' output' ≡ a → WriteTouches scratch output r scratch' output'
-    by (Err n) (early m l u) e = refused-left scratch output n scratch' output' (outputs e) (λ h. scratches e) (λ h. absurd (omega (arith, number e)))
-    by (Err n) (late m l) e = refused-left scratch output n scratch' output' (outputs e) (λ h. absurd (omega (arith, number e))) (λ h. scratches e)
-    by (Err n) (whole s b f) e = absurd (omega (arith, bytes e, plain_size (term_at message (rows_of used words) root)))
-    by (Ok n) (early m l u) e = absurd (omega (arith, number e))
-    by (Ok n) (late m l) e = absurd (omega (arith, number e))
-    by (Ok n) (whole s b f) e = written-left scratch output (text message words used root scratch output) n scratch' output' (bytes e) f (scratches e) (outputs e)
+    by (Err n) (early m l u) e = refused-left scratch output n scratch' output' (grind arith) (λ h. grind arith) (λ h. grind arith)
+    by (Err n) (late m l) e = refused-left scratch output n scratch' output' (grind arith) (λ h. grind arith) (λ h. grind arith)
+    by (Err n) (whole s b f) e = absurd (omega (arith, ap (λ (w : A.Written). w.bytes) e, plain_size (term_at message (rows_of used words) root)))
+    by (Ok n) (early m l u) e = absurd (grind arith)
+    by (Ok n) (late m l) e = absurd (grind arith)
+    by (Ok n) (whole s b f) e = written-left scratch output (text message words used root scratch output) n scratch' output' (grind arith) f (grind arith) (grind arith)
 
 -- the scratch that `compare` leaves, by its number
 record ScratchLeft (scratch : List ℕ) (d : A.Compared) : Type 0 where
@@ -105,15 +91,7 @@ record ScratchLeft (scratch : List ℕ) (d : A.Compared) : Type 0 where
 compare_left : (message_a words_a : List ℕ) (used_a root_a : ℕ) (message_b words_b : List ℕ) (used_b root_b : ℕ) (scratch : List ℕ)
     → ScratchLeft scratch (compare_answer message_a words_a used_a root_a message_b words_b used_b root_b scratch)
 unfolding compare_answer compare_refusal
-compare_left message_a words_a used_a root_a message_b words_b used_b root_b scratch =
-    by (over_bound message_a || over_bound message_b) (ltb (length scratch) (used_a + used_b)) (not (sound_table message_a words_a used_a root_a && sound_table message_b words_b used_b root_b)) _
-  where
-    by : (a b c : Bool) (equal : ℕ) → ScratchLeft scratch (cond a (compare_refusal 1 scratch) (cond b (compare_refusal 2 scratch)
-        (cond c (compare_refusal 16 (zeroed scratch)) (record { number = 0; equal = equal; scratch = zeroed scratch }))))
-    by true b c equal = record { untouched = λ l u. refl; zero = λ h. absurd (omega (arith, h (omega arith))) }
-    by false true c equal = record { untouched = λ l u. refl; zero = λ h. absurd (omega (arith, h (omega arith))) }
-    by false false true equal = record { untouched = λ l u. absurd (omega arith); zero = λ h. refl }
-    by false false false equal = record { untouched = λ l u. absurd (omega arith); zero = λ h. refl }
+compare_left message_a words_a used_a root_a message_b words_b used_b root_b scratch = record { untouched = λ l u. grind arith; zero = λ h. grind arith }
 
 pub demand1_compare : (message_a words_a : List ℕ) (used_a root_a : ℕ) (message_b words_b : List ℕ) (used_b root_b : ℕ) (scratch : List ℕ) (r : Result Bool Refusal) (scratch' : List ℕ)
     → compared_as r scratch' ≡ compare_answer message_a words_a used_a root_a message_b words_b used_b root_b scratch → CompareTouches scratch r scratch'

@@ -55,24 +55,17 @@ some-row message t z =
 -- a refusal with its number, whatever the tables
 refused_with : (message : List ℕ) (r : Result Accepted Refused) (u t : Tables) (n p : ℕ) → 1 ≤ n → decoded_as r u ≡ decode_refusal n p t → in_terms message r u ≡ refused n p
 unfolding decoded_as decode_refusal in_terms
-refused_with message (Ok a) u t n p h e = absurd (omega (arith, ap (λ (d : A.Decoded). d.number) e))
-refused_with message (Err x) u t n p h e =
-    let number' : number_of x.refusal ≡ n = ap (λ (d : A.Decoded). d.number) e in
-    let place' : x.place.0 ≡ p = ap (λ (d : A.Decoded). d.place) e in
-    rw (number', place') refl
+refused_with message (Ok a) u t n p h e = grind arith
+refused_with message (Err x) u t n p h e = grind arith
 
 -- an accepted message's answer in terms
 accepted_with : (message : List ℕ) (t u : Tables) (k : ℕ) (res : M.Result row_values) → R.Accepted message k res → (r : Result Accepted Refused) → decoded_as r u ≡ decode_result t (accepted k res)
     → in_terms message r u ≡ S.in_terms message (accepted k res)
 unfolding decoded_as decode_refusal decode_result cleared in_terms S.in_terms
-accepted_with message t u k res a (Err x) e = absurd (omega (arith, a.root, ap (λ (d : A.Decoded). d.used) e))
+accepted_with message t u k res a (Err x) e = grind (arith, a.root)
 accepted_with message t u k res a (Ok b) e =
-    let bytes : b.consumed ≡ k = ap (λ (d : A.Decoded). d.place) e in
-    let root' : b.root.0 ≡ res.root = ap (λ (d : A.Decoded). d.root) e in
-    let used' : b.used ≡ res.used = ap (λ (d : A.Decoded). d.used) e in
-    let words : u.rows ≡ rows_in t.rows res.memory = ap (λ (d : A.Decoded). d.tables.rows) e in
     let rows : rows_of res.used (rows_in t.rows res.memory) ≡ res.memory = rw (← a.count) (rows_in_lem t.rows res.memory) in
-    rw (bytes, root', used', words, rows) refl
+    grind (arith, rows)
 
 -- the machine's answer in terms, whatever it is
 machine_with : (message : List ℕ) (t : Tables) (r : Result Accepted Refused) (u : Tables) (o : Outcome (M.Result row_values)) → run row_values (limits_of t) message ≡ o
@@ -83,13 +76,8 @@ machine_with message t r u (accepted k res) q e = accepted_with message t u k re
 
 machine_says_lem : (message : List ℕ) (t : Tables) (r : Result Accepted Refused) (u : Tables) → decoded_as r u ≡ decode_answer message t → in_terms message r u ≡ machine_says message t
 unfolding decode_answer machine_says
-machine_says_lem message t r u promise = by (over_bound message) (ltb (length t.registers) register_words) promise
-  where
-    by : (b c : Bool) → decoded_as r u ≡ cond b (decode_refusal 1 0 t) (cond c (decode_refusal 2 0 t) (decode_result t (run row_values (limits_of t) message)))
-        → in_terms message r u ≡ cond b (refused 1 0) (cond c (refused 2 0) (run term_values (limits_of t) message))
-    by true c e = refused_with message r u t 1 0 (omega arith) e
-    by false true e = refused_with message r u t 2 0 (omega arith) e
-    by false false e = machine_with message t r u (run row_values (limits_of t) message) refl e ∙ same_answer message (limits_of t)
+machine_says_lem message t r u promise =
+    grind (arith, refused_with message r u t 1 0, refused_with message r u t 2 0, machine_with message t r u (run row_values (limits_of t) message) refl, same_answer message (limits_of t))
 
 -- an accepted answer, in the paper's numbers
 module _ (message : List ℕ) (t u : Tables) (a : Accepted) (promise : decoded_as (Ok a) u ≡ decode_answer message t) where
@@ -121,16 +109,9 @@ nothing_changes x y z t t' s h r r' u u' first second a all e =
     let same = second ∙ unchanged x y z t t' s h zero place ∙ sym first' in
     by r' same (rw (← first') at (some-row (x ++ y) t zero))
   where
-    with_root : ℕ → Result Accepted Refused
-    with_root n = Ok (record { consumed = a.consumed; root = record { 0 = n }; used = a.used })
-
     by : (q : Result Accepted Refused) → decoded_as q u' ≡ decoded_as (Ok a) u → 1 ≤ a.used → (q ≡ r) × (u' ≡ u)
     by (Err n) f l = absurd (omega (arith, ap (λ (d : A.Decoded). d.used) f))
-    by (Ok b) f l =
-        let bytes : b.consumed ≡ a.consumed = ap (λ (d : A.Decoded). d.place) f in
-        let root : b.root.0 ≡ a.root.0 = ap (λ (d : A.Decoded). d.root) f in
-        let used : b.used ≡ a.used = ap (λ (d : A.Decoded). d.used) f in
-        (rw (e, bytes, used) (ap with_root root), ap (λ (d : A.Decoded). d.tables) f)
+    by (Ok b) f l = (grind arith, grind arith)
 
 not-cut : {term : Term} {o : Outcome (M.Result term_values)} → B.ReadsBack term o → NotCut o
 not-cut (B.whole rows) = tt
@@ -138,29 +119,26 @@ not-cut (B.no_room n p h) = λ e. omega arith
 
 -- a text with anything after it is read as the text alone: the same term, all of the text consumed, or no room
 text-read : (term : Term) → T (sound_term term) → (lim : Limits) (after : List ℕ) → B.ReadsBack term (run term_values lim (plain term ++ after))
-text-read term s lim after = by (run term_values lim (plain term)) (read-back_limits lim term s) refl
-  where
-    by : (o : Outcome (M.Result term_values)) → B.ReadsBack term o → run term_values lim (plain term) ≡ o → B.ReadsBack term (run term_values lim (plain term ++ after))
-    by o r e = rw (appended term_values lim (plain term) after o e (not-cut r)) r
+text-read term s lim after =
+    let r = read-back_limits lim term s in
+    rw (appended term_values lim (plain term) after _ refl (not-cut r)) r
 
 -- no room is a limit
 room-limit : (n : ℕ) → (12 ≤ n) × (n ≤ 14) → T (is_limit n)
 unfolding is_limit
-room-limit n h =
-    either n 12 (λ e. rw e tt) (λ a. either n 13 (λ e. rw e tt) (λ b. either n 14 (λ e. rw e tt)
-    (λ c. absurd (omega (arith, eqb-false n 12 a, eqb-false n 13 b, eqb-false n 14 c, h.0, h.1)))))
+room-limit n h = grind arith
 
 -- what the machine says of n bytes, and what may follow them, for `decode`'s answer
 module _ (term : Term) (n : ℕ) (bytes : List ℕ) (u : Tables) where
   back-refused : (d : Result Accepted Refused) (m q : ℕ) → in_terms bytes d u ≡ refused m q → T (is_limit m) → ReadsBack term n bytes u d
   unfolding in_terms
   back-refused (Err x) m q e h = let k : number_of x.refusal ≡ m = cc in limit x (rw k h)
-  back-refused (Ok a) m q e h = let never : ◌≡◌ {A = ℕ} 0 1 = cc in absurd (omega arith)
+  back-refused (Ok a) m q e h = absurd (cc)
 
   back-accepted : (d : Result Accepted Refused) (rows : ℕ) → in_terms bytes d u ≡ accepted n (record { used = rows; root = term; memory = tt })
       → ((a : Accepted) → d ≡ Ok a → T (sound_table bytes u.rows a.used a.root.0)) → ReadsBack term n bytes u d
   unfolding in_terms
-  back-accepted (Err x) rows e s = let never : ◌≡◌ {A = ℕ} 0 1 = cc in absurd (omega arith)
+  back-accepted (Err x) rows e s = absurd (cc)
   back-accepted (Ok a) rows e s =
       let k : a.consumed ≡ n = cc in
       let r : ◌≡◌ {A = M.Result term_values} (record { used = a.used; root = term_at bytes (rows_of a.used u.rows) a.root.0; memory = tt }) (record { used = rows; root = term; memory = tt }) = cc in
@@ -246,7 +224,7 @@ module _ (message words : List ℕ) (used root : ℕ) (scratch output : List ℕ
   unfolding trip_as trip_says trip_leaves written_as write_refusal
   not_written_lem n promise e =
       let number : number_of n ≡ answer.number = ap (λ (w : A.Written). w.number) promise in
-      (rw (some_number n promise) (ap not_written number), (rw (some_number n promise, ← promise, e) refl, λ x q. let never : ◌≡◌ {A = ℕ} 0 1 = cc in absurd (omega arith)))
+      (rw (some_number n promise) (ap not_written number), (rw (some_number n promise, ← promise, e) refl, λ x q. absurd (cc)))
 
   -- what was read back, as a round trip's answer
   trip_back : (d : Result Accepted Refused) → ReadsBack term (length (plain term)) (plain term) u d → take (length (plain term)) output' ≡ plain term → trip_as output' (reading d) u ≡ read_as term (decoded_as d u).root (in_terms (plain term) d u)
@@ -256,7 +234,7 @@ module _ (message words : List ℕ) (used root : ℕ) (scratch output : List ℕ
 
   only_limits : (d : Result Accepted Refused) → ReadsBack term (length (plain term)) (plain term) u d → (x : Refused) → reading d ≡ Err (NotRead x) → T (is_limit (number_of x.refusal))
   unfolding reading
-  only_limits d (same top count s e) x q = let never : ◌≡◌ {A = ℕ} 0 1 = cc in absurd (omega arith)
+  only_limits d (same top count s e) x q = absurd (cc)
   only_limits d (limit y h) x q = let e : y ≡ x = cc in rw (← e) h
 
   written_read : (n : ℕ) (d : Result Accepted Refused) → written_as (Ok n) scratch' output' ≡ answer → decoded_as d u ≡ decode_answer (take n output') t → Trips (reading d)

@@ -50,28 +50,17 @@ not-refused c scratch' n e q = omega (arith, at_least_1 e, rw q at n)
 -- it is "equal" for the same texts, and only for them
 equal-same : (c : Result Bool Refusal) (scratch' : List ℕ) (same : Bool) → (compared_as c scratch').equal ≡ cond same 1 0 → c ≡ Ok true → same ≡ true
 unfolding compared_as
-equal-same c scratch' true e q = refl
-equal-same c scratch' false e q = absurd (omega (arith, rw q at e))
+equal-same c scratch' same e q = grind arith
 
 same-equal : (c : Result Bool Refusal) (scratch' : List ℕ) → (compared_as c scratch').equal ≡ 1 → c ≡ Ok true
 unfolding compared_as compare_refusal
-same-equal (Ok true) scratch' e = refl
-same-equal (Ok false) scratch' e = absurd (omega arith)
-same-equal (Err n) scratch' e = absurd (omega arith)
+same-equal c scratch' e = grind arith
 
 -- and what the comparison of two messages answers for it, whose tables `decode` left: the only refusal is that of the scratch
 verdict-told : (c : Result Bool Refusal) (scratch' : List ℕ) (short same : Bool) (scratch : List ℕ) → (compared_as c scratch').number ≡ (told short same scratch).number → (compared_as c scratch').equal ≡ (told short same scratch).equal
     → comparison_as (result_or c (Err ShortScratch)) ≡ cond short scratch_too_short (cond same equal different)
 unfolding compared_as compare_refusal comparison_as
-verdict-told (Ok true) scratch' true same scratch n e = absurd (omega arith)
-verdict-told (Ok true) scratch' false true scratch n e = refl
-verdict-told (Ok true) scratch' false false scratch n e = absurd (omega arith)
-verdict-told (Ok false) scratch' true same scratch n e = absurd (omega arith)
-verdict-told (Ok false) scratch' false true scratch n e = absurd (omega arith)
-verdict-told (Ok false) scratch' false false scratch n e = refl
-verdict-told (Err m) scratch' true same scratch n e = refl
-verdict-told (Err m) scratch' false true scratch n e = absurd (omega arith)
-verdict-told (Err m) scratch' false false scratch n e = absurd (omega (arith, at_least_1 m))
+verdict-told c scratch' short same scratch n e = grind (arith, at_least_1)
 
 -- the scratch of any answer is the one left
 left-scratch : (c : Result Bool Refusal) (scratch' : List ℕ) → scratch' ≡ (compared_as c scratch').scratch

@@ -10,6 +10,8 @@ use lib.ListN.{length, get_or-eq_default}
 use lib.Dec.{T, ltb}
 use lib.IntN.{ℤ}
 use borrow.Author.Tests.{eq-eqb, ne_eqb, le-leb, lt-leb, lt-ltb, ltb-true, ltb-false}
+use mathlib.Core.Logic.{inl, inr}
+use Rattle.std.proofs.lemmas.Bool.{cases_lt}
 use Rattle.format.specs.Rows.{rows_of, row_room, no_term, terms_after, term_at}
 use Rattle.format.specs.Sound.{count_fits, root_among, sound_rows, sound_table}
 use Rattle.format.specs.Term.{Term, binary, tag}
@@ -63,16 +65,14 @@ reads f bytes k w e =
 -- a row at which a tag stands is among those used: past them there is none
 tag-among : (message words : List ℕ) (used row : ℕ) (name : List ℕ) (t : Term) → term_at message (rows_of used words) row ≡ tag name t → row < used
 unfolding term_at
-tag-among message words used row name t e = by (ltb row used) refl
-  where
-    by : (q : Bool) → ltb row used ≡ q → row < used
-    by true s = ltb-true row used s
-    by false s =
-        let rows = rows_of used words in
-        let count : length (terms_after message [] rows) ≡ used = terms_length message [] rows ∙ zero-add (length rows) ∙ length-rows used words in
-        let none : no_term ≡ tag name t = sym (get_or-eq_default (terms_after message [] rows) no_term (omega (arith, ltb-false row used s))) ∙ e in
-        let z : ◌≡◌ {A = ℕ} 0 1 = cc in
-        absurd (omega arith)
+tag-among message words used row name t e = elim (cases_lt row used) [
+  | inl l ↦ l
+  | inr s ↦
+      let rows = rows_of used words in
+      let count : length (terms_after message [] rows) ≡ used = omega (arith, terms_length message [] rows, length-rows used words) in
+      let none : no_term ≡ tag name t = sym (get_or-eq_default (terms_after message [] rows) no_term (omega arith)) ∙ e in
+      absurd (cc)
+]
 
 -- the table that `decode` left is sound with any of its rows in the root's place
 sound-at : (message words : List ℕ) (used root row : ℕ) → T (sound_table message words used root) → row < used → sound_table message words used row ≡ true

@@ -7,10 +7,6 @@ use Rattle.format.specs.Rows.{row_room}
 use Rattle.table.proofs.Tuple as laws
 use Rattle.table.proofs.put_fields.Goals as goal
 
-pub loop-field-init : goal.loop-field-init
-loop-field-init c =
-    record { can_next = tt; is_finite = tt; within = omega arith; count = omega arith; same = refl; left = rw sub-zero refl }
-
 pub overflow_add-n : goal.overflow_add-n
 unfolding row_room
 overflow_add-n c =
