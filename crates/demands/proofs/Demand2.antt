@@ -8,7 +8,7 @@ use native.Mathlib.Omega.{arith}
 use lib.ListN.{length, take, drop, length-append}
 use lib.Seq.{take-append_seam}
 use lib.Dec.{eqb, ltb, T}
-use borrow.Author.Tests.{eq-eqb, ne_eqb, eqb-false}
+use borrow.Author.Tests.{eq-eqb, ne_eqb, eqb-false, ltb-false}
 use Rattle.format.specs.Bound.{register_words}
 use Rattle.std.specs.Prelude.{Result, Ok, Err}
 use Rattle.format.specs.Machine as M
@@ -20,7 +20,7 @@ use Rattle.format.specs.Sound.{sound_table, sound_term}
 use Rattle.format.specs.Term.{Term}
 use Rattle.format.specs.Text.{plain}
 use Rattle.format.specs.Answer as A
-use Rattle.format.specs.Answer.{Tables, over_bound, limits_of, rows_in, cleared, decode_refusal, decode_result, decode_answer, write_refusal, write_answer}
+use Rattle.format.specs.Answer.{Tables, over_bound, limits_of, rows_in, cleared, decode_refusal, decode_result, decode_answer, write_refusal, write_text, write_answer}
 use Rattle.format.specs.declared.Row.{Row}
 use Rattle.format.proofs.Decoded.{rows_in_lem, accepts, decoded-sound, decoded-term}
 use Rattle.format.proofs.ReadBack as B
@@ -42,6 +42,7 @@ use Rattle.decoder.specs.Answers.{decoded_as}
 use Rattle.decoder.specs.declared.Accepted.{Accepted}
 use Rattle.text.specs.Answers.{written_as}
 use Rattle.demands.specs.Demand2.{in_terms, machine_says, DecodeMeans, NothingChanges, is_limit, ReadsBack, same, limit, WrittenReadsBack, not_written, reading, read_as, trip_as, trip_says, buffers, trip_leaves}
+use Rattle.demands.proofs.Numbers.{at_least_1}
 use Rattle.demands.specs.declared.TripRefused.{TripRefused}
 use Rattle.demands.specs.declared.TripRefused.TheVariants.{NotWritten, NotRead}
 
@@ -166,21 +167,17 @@ record Wrote (message words : List ℕ) (used root n : ℕ) (output' : List ℕ)
 
 wrote : (message words : List ℕ) (used root : ℕ) (scratch output : List ℕ) (n : ℕ) (scratch' output' : List ℕ) → written_as (Ok n) scratch' output' ≡ write_answer message words used root scratch output
     → Wrote message words used root n output'
-unfolding written_as write_refusal
-wrote message words used root scratch output n scratch' output' promise = by (writes message words used root scratch output) promise
-  where
-    by : {a : A.Written} → Writes message words used root scratch output a → written_as (Ok n) scratch' output' ≡ a → Wrote message words used root n output'
-    by (early m l h) e = absurd (omega (arith, ap (λ (w : A.Written). w.number) e))
-    by (late m l) e = absurd (omega (arith, ap (λ (w : A.Written). w.number) e))
-    by (whole s b f) e =
-        let count = ap (λ (w : A.Written). w.bytes) e in
-        let left = ap (λ (w : A.Written). w.output) e in
-        record {
-          sound = table-term message (omega (arith, b)) words used root s;
-          count = count;
-          fits = rw left (omega (arith, length-append (plain (term_at message (rows_of used words) root)) (drop (length (plain (term_at message (rows_of used words) root))) output)));
-          text = rw (count, left) (take-append_seam (plain (term_at message (rows_of used words) root)) (drop (length (plain (term_at message (rows_of used words) root))) output));
-        }
+unfolding written_as write_refusal write_text write_answer over_bound
+wrote message words used root scratch output n scratch' output' promise =
+    let text = plain (term_at message (rows_of used words) root) in
+    let count : n ≡ length text = grind arith in
+    let lies : output' ≡ text ++ drop (length text) output = grind arith in
+    record {
+      sound = grind (arith, table-term message, ltb-false);
+      count = count;
+      fits = rw lies (omega (arith, count, length-append text (drop (length text) output)));
+      text = rw (count, lies) (take-append_seam text (drop (length text) output));
+    }
 
 -- the bytes reported lie in the output
 pub bytes_fit : (message words : List ℕ) (used root : ℕ) (scratch output : List ℕ) (w : Result ℕ Refusal) (scratch' output' : List ℕ) → written_as w scratch' output' ≡ write_answer message words used root scratch output
@@ -213,12 +210,7 @@ module _ (message words : List ℕ) (used root : ℕ) (scratch output : List ℕ
   -- a refusal's number is not 0
   some_number : (n : Refusal) → written_as (Err n) scratch' output' ≡ answer → eqb answer.number 0 ≡ false
   unfolding written_as write_refusal
-  some_number n promise = ne_eqb answer.number 0 (λ z. by (writes message words used root scratch output) promise z)
-    where
-      by : {a : A.Written} → Writes message words used root scratch output a → written_as (Err n) scratch' output' ≡ a → a.number ≡ 0 → ⊥
-      by (early m l h) e z = omega arith
-      by (late m l) e z = omega arith
-      by (whole s b f) e z = omega (arith, ap (λ (w : A.Written). w.bytes) e, plain_size (term_at message (rows_of used words) root))
+  some_number n promise = grind (arith, at_least_1 n)
 
   not_written_lem : (n : Refusal) → written_as (Err n) scratch' output' ≡ answer → u ≡ t → Trips (Err (NotWritten n))
   unfolding trip_as trip_says trip_leaves written_as write_refusal
