@@ -53,32 +53,18 @@ some-row message t z =
     let a = accepts message t z in
     rw a.answer (omega (arith, (accepted-rows message (limits_of t) a.consumed a.result a.ran).root))
 
--- a refusal with its number, whatever the tables
-refused_with : (message : List ℕ) (r : Result Accepted Refused) (u t : Tables) (n p : ℕ) → 1 ≤ n → decoded_as r u ≡ decode_refusal n p t → in_terms message r u ≡ refused n p
-unfolding decoded_as decode_refusal in_terms
-refused_with message (Ok a) u t n p h e = grind arith
-refused_with message (Err x) u t n p h e = grind arith
-
--- an accepted message's answer in terms
-accepted_with : (message : List ℕ) (t u : Tables) (k : ℕ) (res : M.Result row_values) → R.Accepted message k res → (r : Result Accepted Refused) → decoded_as r u ≡ decode_result t (accepted k res)
-    → in_terms message r u ≡ S.in_terms message (accepted k res)
-unfolding decoded_as decode_refusal decode_result cleared in_terms S.in_terms
-accepted_with message t u k res a (Err x) e = grind (arith, a.root)
-accepted_with message t u k res a (Ok b) e =
-    let rows : rows_of res.used (rows_in t.rows res.memory) ≡ res.memory = rw (← a.count) (rows_in_lem t.rows res.memory) in
-    grind (arith, rows)
-
--- the machine's answer in terms, whatever it is
-machine_with : (message : List ℕ) (t : Tables) (r : Result Accepted Refused) (u : Tables) (o : Outcome (M.Result row_values)) → run row_values (limits_of t) message ≡ o
-    → decoded_as r u ≡ decode_result t o → in_terms message r u ≡ S.in_terms message o
-unfolding decode_result S.in_terms
-machine_with message t r u (refused n p) q e = refused_with message r u (cleared t []) n p (omega (arith, machine-number row_values (limits_of t) message n p q)) e
-machine_with message t r u (accepted k res) q e = accepted_with message t u k res (accepted-rows message (limits_of t) k res q) r e
-
 machine_says_lem : (message : List ℕ) (t : Tables) (r : Result Accepted Refused) (u : Tables) → decoded_as r u ≡ decode_answer message t → in_terms message r u ≡ machine_says message t
-unfolding decode_answer machine_says
-machine_says_lem message t r u promise =
-    grind (arith, refused_with message r u t 1 0, refused_with message r u t 2 0, machine_with message t r u (run row_values (limits_of t) message) refl, same_answer message (limits_of t))
+unfolding decode_answer decode_refusal decode_result decoded_as cleared machine_says in_terms S.in_terms
+machine_says_lem message t r u promise = by (run row_values (limits_of t) message) refl (same_answer message (limits_of t))
+  where
+    by : (o : Outcome (M.Result row_values)) → run row_values (limits_of t) message ≡ o → S.in_terms message o ≡ run term_values (limits_of t) message → in_terms message r u ≡ machine_says message t
+    by (refused n p) q told =
+        let number = machine-number row_values (limits_of t) message n p q in
+        grind (arith, number, told)
+    by (accepted k res) q told =
+        let a = accepted-rows message (limits_of t) k res q in
+        let rows : rows_of res.used (rows_in t.rows res.memory) ≡ res.memory = rw (← a.count) (rows_in_lem t.rows res.memory) in
+        grind (arith, a.root, rows, told)
 
 -- an accepted answer, in the paper's numbers
 module _ (message : List ℕ) (t u : Tables) (a : Accepted) (promise : decoded_as (Ok a) u ≡ decode_answer message t) where
@@ -86,19 +72,12 @@ module _ (message : List ℕ) (t u : Tables) (a : Accepted) (promise : decoded_a
   unfolding decoded_as
   number = ap (λ (d : A.Decoded). d.number) (sym promise)
 
-  its_term : message_term message ≡ some (term_at message (rows_of a.used u.rows) a.root.0)
-  unfolding decoded_as
-  its_term = rw (← promise) at (decoded-term message t number)
-
-  its_table : T (sound_table message u.rows a.used a.root.0)
-  unfolding decoded_as
-  its_table = rw (← promise) at (decoded-sound message t number)
-
 pub demand2 : (message : List ℕ) (t : Tables) (r : Result Accepted Refused) (u : Tables) → decoded_as r u ≡ decode_answer message t → DecodeMeans message t r u
+unfolding decoded_as
 demand2 message t r u promise = record {
   machine = machine_says_lem message t r u promise;
-  term = λ a e. its_term message t u a (rw e at promise);
-  sound = λ a e. its_table message t u a (rw e at promise);
+  term = λ a e. let p = rw e at promise in rw (← p) at (decoded-term message t (number message t u a p));
+  sound = λ a e. let p = rw e at promise in rw (← p) at (decoded-sound message t (number message t u a p));
 }
 
 pub nothing_changes : NothingChanges
@@ -108,11 +87,8 @@ nothing_changes x y z t t' s h r r' u u' first second a all e =
     let zero = number (x ++ y) t u a first' in
     let place : (decode_answer (x ++ y) t).place ≡ length x = ap (λ (d : A.Decoded). d.place) (sym first') ∙ all in
     let same = second ∙ unchanged x y z t t' s h zero place ∙ sym first' in
-    by r' same (rw (← first') at (some-row (x ++ y) t zero))
-  where
-    by : (q : Result Accepted Refused) → decoded_as q u' ≡ decoded_as (Ok a) u → 1 ≤ a.used → (q ≡ r) × (u' ≡ u)
-    by (Err n) f l = absurd (omega (arith, ap (λ (d : A.Decoded). d.used) f))
-    by (Ok b) f l = (grind arith, grind arith)
+    let some = rw (← first') at (some-row (x ++ y) t zero) in
+    (grind (arith, same, some), grind (arith, same, some))
 
 not-cut : {term : Term} {o : Outcome (M.Result term_values)} → B.ReadsBack term o → NotCut o
 not-cut (B.whole rows) = tt
@@ -129,34 +105,26 @@ room-limit : (n : ℕ) → (12 ≤ n) × (n ≤ 14) → T (is_limit n)
 unfolding is_limit
 room-limit n h = grind arith
 
--- what the machine says of n bytes, and what may follow them, for `decode`'s answer
-module _ (term : Term) (n : ℕ) (bytes : List ℕ) (u : Tables) where
-  back-refused : (d : Result Accepted Refused) (m q : ℕ) → in_terms bytes d u ≡ refused m q → T (is_limit m) → ReadsBack term n bytes u d
-  unfolding in_terms
-  back-refused (Err x) m q e h = let k : number_of x.refusal ≡ m = cc in limit x (rw k h)
-  back-refused (Ok a) m q e h = absurd (cc)
-
-  back-accepted : (d : Result Accepted Refused) (rows : ℕ) → in_terms bytes d u ≡ accepted n (record { used = rows; root = term; memory = tt })
-      → ((a : Accepted) → d ≡ Ok a → T (sound_table bytes u.rows a.used a.root.0)) → ReadsBack term n bytes u d
-  unfolding in_terms
-  back-accepted (Err x) rows e s = absurd (cc)
-  back-accepted (Ok a) rows e s =
-      let k : a.consumed ≡ n = cc in
-      let r : ◌≡◌ {A = M.Result term_values} (record { used = a.used; root = term_at bytes (rows_of a.used u.rows) a.root.0; memory = tt }) (record { used = rows; root = term; memory = tt }) = cc in
-      rw k (same a.root a.used (s a refl) (ap (λ (x : M.Result term_values). x.root) r))
-
 -- `decode` on a text with anything after it
 text-back : (term : Term) → T (sound_term term) → (after : List ℕ) (t : Tables) (d : Result Accepted Refused) (u : Tables) → decoded_as d u ≡ decode_answer (plain term ++ after) t
     → ReadsBack term (length (plain term)) (plain term ++ after) u d
-unfolding over_bound machine_says is_limit
-text-back term s after t d u promise = by (over_bound (plain term ++ after)) (ltb (length t.registers) register_words) (text-read term s (limits_of t) after) (machine_says_lem (plain term ++ after) t d u promise)
+unfolding machine_says in_terms is_limit
+text-back term s after t d u promise =
+    by d (text-read term s (limits_of t) after) (machine_says_lem (plain term ++ after) t d u promise) (demand2 (plain term ++ after) t d u promise).sound
   where
-    by : (b c : Bool) {o : Outcome (M.Result term_values)} → B.ReadsBack term o → in_terms (plain term ++ after) d u ≡ cond b (refused 1 0) (cond c (refused 2 0) o)
-        → ReadsBack term (length (plain term)) (plain term ++ after) u d
-    by true c r e = back-refused term (length (plain term)) (plain term ++ after) u d 1 0 e tt
-    by false true r e = back-refused term (length (plain term)) (plain term ++ after) u d 2 0 e tt
-    by false false (B.whole rows) e = back-accepted term (length (plain term)) (plain term ++ after) u d rows e (demand2 (plain term ++ after) t d u promise).sound
-    by false false (B.no_room m q h) e = back-refused term (length (plain term)) (plain term ++ after) u d m q e (room-limit m h)
+    bytes : List ℕ
+    bytes = plain term ++ after
+
+    by : (d : Result Accepted Refused) {o : Outcome (M.Result term_values)} → B.ReadsBack term o
+        → in_terms bytes d u ≡ cond (over_bound bytes) (refused 1 0) (cond (ltb (length t.registers) register_words) (refused 2 0) o)
+        → ((a : Accepted) → d ≡ Ok a → T (sound_table bytes u.rows a.used a.root.0)) → ReadsBack term (length (plain term)) bytes u d
+    by (Err x) (B.whole rows) e sound = limit x (grind arith)
+    by (Err x) (B.no_room m q h) e sound = limit x (grind (arith, room-limit m h))
+    by (Ok a) (B.no_room m q h) e sound = absurd (grind arith)
+    by (Ok a) (B.whole rows) e sound =
+        let count : a.consumed ≡ length (plain term) = grind arith in
+        let root : term_at bytes (rows_of a.used u.rows) a.root.0 ≡ term = grind arith in
+        rw count (same a.root a.used (sound a refl) root)
 
 -- what `write` wrote is a sound term's text
 record Wrote (message words : List ℕ) (used root n : ℕ) (output' : List ℕ) : Type 0 where
@@ -207,16 +175,9 @@ module _ (message words : List ℕ) (used root : ℕ) (scratch output : List ℕ
   abbrev term : Term
   term = term_at message (rows_of used words) root
 
-  -- a refusal's number is not 0
-  some_number : (n : Refusal) → written_as (Err n) scratch' output' ≡ answer → eqb answer.number 0 ≡ false
-  unfolding written_as write_refusal
-  some_number n promise = grind (arith, at_least_1 n)
-
   not_written_lem : (n : Refusal) → written_as (Err n) scratch' output' ≡ answer → u ≡ t → Trips (Err (NotWritten n))
   unfolding trip_as trip_says trip_leaves written_as write_refusal
-  not_written_lem n promise e =
-      let number : number_of n ≡ answer.number = ap (λ (w : A.Written). w.number) promise in
-      (rw (some_number n promise) (ap not_written number), (rw (some_number n promise, ← promise, e) refl, λ x q. absurd (cc)))
+  not_written_lem n promise e = (grind (arith, at_least_1 n), (grind (arith, at_least_1 n), λ x q. absurd (cc)))
 
   -- what was read back, as a round trip's answer
   trip_back : (d : Result Accepted Refused) → ReadsBack term (length (plain term)) (plain term) u d → take (length (plain term)) output' ≡ plain term → trip_as output' (reading d) u ≡ read_as term (decoded_as d u).root (in_terms (plain term) d u)

@@ -42,21 +42,7 @@ root_term message u a = term_at message (rows_of a.used u.rows) a.root.0
 abbrev pub told : Bool → Bool → List ℕ → A.Compared
 told short same scratch = cond short (compare_refusal 2 scratch) (record { number = 0; equal = cond same 1 0; scratch = zeroed scratch })
 
--- an answer is no refusal
-not-refused : (c : Result Bool Refusal) (scratch' : List ℕ) → (compared_as c scratch').number ≡ 0 → (e : Refusal) → c ≡ Err e → ⊥
-unfolding compared_as compare_refusal
-not-refused c scratch' n e q = omega (arith, at_least_1 e, rw q at n)
-
--- it is "equal" for the same texts, and only for them
-equal-same : (c : Result Bool Refusal) (scratch' : List ℕ) (same : Bool) → (compared_as c scratch').equal ≡ cond same 1 0 → c ≡ Ok true → same ≡ true
-unfolding compared_as
-equal-same c scratch' same e q = grind arith
-
-same-equal : (c : Result Bool Refusal) (scratch' : List ℕ) → (compared_as c scratch').equal ≡ 1 → c ≡ Ok true
-unfolding compared_as compare_refusal
-same-equal c scratch' e = grind arith
-
--- and what the comparison of two messages answers for it, whose tables `decode` left: the only refusal is that of the scratch
+-- what the comparison of two messages answers for it, whose tables `decode` left: the only refusal is that of the scratch
 verdict-told : (c : Result Bool Refusal) (scratch' : List ℕ) (short same : Bool) (scratch : List ℕ) → (compared_as c scratch').number ≡ (told short same scratch).number → (compared_as c scratch').equal ≡ (told short same scratch).equal
     → comparison_as (result_or c (Err ShortScratch)) ≡ cond short scratch_too_short (cond same equal different)
 unfolding compared_as compare_refusal comparison_as
@@ -82,6 +68,7 @@ accepted-answer message_a t_a u_a a first message_b t_b u_b b second scratch =
     rw (bound_a, bound_b, sound_a, sound_b) refl
 
 pub accepted_compare : AcceptedCompare
+unfolding compared_as compare_refusal
 accepted_compare message_a t_a u_a a first message_b t_b u_b b second scratch room c scratch' promise =
     let term_a = root_term message_a u_a a in
     let term_b = root_term message_b u_b b in
@@ -94,9 +81,9 @@ accepted_compare message_a t_a u_a a first message_b t_b u_b b second scratch ro
       means_a = (demand2 message_a t_a _ u_a first).term a refl;
       means_b = (demand2 message_b t_b _ u_b second).term b refl;
       answer = answer;
-      never = not-refused c scratch' (ap (λ (d : A.Compared). d.number) answer);
-      equal = λ e. same_bytes_lem (plain term_a) (plain term_b) (equal-same c scratch' _ equal e);
-      same = λ e. same-equal c scratch' (equal ∙ rw (e, same_refl) refl);
+      never = λ e q. grind (arith, at_least_1 e);
+      equal = λ e. same_bytes_lem (plain term_a) (plain term_b) (grind (arith, equal));
+      same = λ e. let one = rw (e, same_refl) at equal in grind (arith, one);
     }
 
 -- a refusal's number is not 0

@@ -39,28 +39,14 @@ use Rattle.demands.proofs.Demand2.{number, demand2, left-tables}
 use Rattle.demands.proofs.Errors.{with_error}
 use Rattle.demands.proofs.Numbers.{at_least_1, same_refusal}
 
--- an answer by its numbers
-refused_of : (w : Result ℤ Refusal) (r : Refusal) → word_as w ≡ no_word (number_of r) → w ≡ Err r
-unfolding word_as
-refused_of (Ok z) r e = absurd (omega (arith, at_least_1 r, ap (λ (a : F.Word). a.number) e))
-refused_of (Err m) r e = ap (λ (x : Refusal). Err x) (same_refusal m r (ap (λ (a : F.Word). a.number) e))
-
-value_of : (w : Result ℤ Refusal) (z : ℤ) → word_as w ≡ record { number = 0; value = z } → w ≡ Ok z
-unfolding word_as
-value_of (Ok y) z e = ap (λ (x : ℤ). Ok x) (ap (λ (a : F.Word). a.value) e)
-value_of (Err m) z e = absurd (omega (arith, at_least_1 m, ap (λ (a : F.Word). a.number) e))
-
 -- what is said of word k of some bytes
 reads : (f : Format) (bytes : List ℕ) (k : ℕ) (w : Result ℤ Refusal) → word_as w ≡ word_in f bytes k → ReadsWord f bytes k w
-unfolding word_in
-reads f bytes k w e =
-    let rest = length bytes % f.width in
-    let words = length bytes / f.width in
-    record {
-      word = λ even inside. value_of w _ (e ∙ rw (eq-eqb rest 0 even, lt-leb words k inside) refl);
-      past = λ even over. refused_of w NoWord (e ∙ rw (eq-eqb rest 0 even, le-leb words k over) refl);
-      uneven = λ odd. refused_of w Uneven (e ∙ rw (ne_eqb rest 0 odd) refl);
-    }
+unfolding word_as word_in
+reads f bytes k w e = record {
+  word = λ even inside. grind (arith, at_least_1);
+  past = λ even over. grind (arith, at_least_1, same_refusal);
+  uneven = λ odd. grind (arith, at_least_1, same_refusal);
+}
 
 -- a row at which a tag stands is among those used: past them there is none
 tag-among : (message words : List ℕ) (used row : ℕ) (name : List ℕ) (t : Term) → term_at message (rows_of used words) row ≡ tag name t → row < used
@@ -104,8 +90,7 @@ accepted-words message t u a promise row name bytes at f known k w answer =
 -- a word of a message's own term: what is answered, and the tables left
 found-read : (w : Result ℤ Refusal) → reading_as (with_error W.NoWord w) ≡ word_found (word_as w)
 unfolding reading_as word_found word_as
-found-read (Ok z) = refl
-found-read (Err r) = rw (ne_eqb (number_of r) 0 (λ e. omega (arith, at_least_1 r))) refl
+found-read w = grind (arith, at_least_1)
 
 module _ (message : List ℕ) (t : Tables) (k : ℕ) where
   abbrev pub Meets : Result ℤ WordRefused → Tables → Type 0
