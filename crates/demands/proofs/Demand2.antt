@@ -46,13 +46,6 @@ use Rattle.demands.proofs.Numbers.{at_least_1}
 use Rattle.demands.specs.declared.TripRefused.{TripRefused}
 use Rattle.demands.specs.declared.TripRefused.TheVariants.{NotWritten, NotRead}
 
--- an accepted message has used a row
-pub some-row : (message : List ℕ) (t : Tables) → (decode_answer message t).number ≡ 0 → 1 ≤ (decode_answer message t).used
-unfolding decode_result
-some-row message t z =
-    let a = accepts message t z in
-    rw a.answer (omega (arith, (accepted-rows message (limits_of t) a.consumed a.result a.ran).root))
-
 machine_says_lem : (message : List ℕ) (t : Tables) (r : Result Accepted Refused) (u : Tables) → decoded_as r u ≡ decode_answer message t → in_terms message r u ≡ machine_says message t
 unfolding decode_answer decode_refusal decode_result decoded_as cleared machine_says in_terms S.in_terms
 machine_says_lem message t r u promise = by (run row_values (limits_of t) message) refl (same_answer message (limits_of t))
@@ -81,14 +74,16 @@ demand2 message t r u promise = record {
 }
 
 pub nothing_changes : NothingChanges
-unfolding decoded_as decode_refusal
+unfolding decoded_as decode_refusal decode_result
 nothing_changes x y z t t' s h r r' u u' first second a all e =
     let first' : decoded_as (Ok a) u ≡ decode_answer (x ++ y) t = rw e at first in
     let zero = number (x ++ y) t u a first' in
     let place : (decode_answer (x ++ y) t).place ≡ length x = ap (λ (d : A.Decoded). d.place) (sym first') ∙ all in
     let same = second ∙ unchanged x y z t t' s h zero place ∙ sym first' in
-    let some = rw (← first') at (some-row (x ++ y) t zero) in
-    (grind (arith, same, some), grind (arith, same, some))
+    let known = accepts (x ++ y) t zero in
+    let some = (accepted-rows (x ++ y) (limits_of t) known.consumed known.result known.ran).root in
+    let used : a.used ≡ known.result.used = ap (λ (d : A.Decoded). d.used) (first' ∙ known.answer) in
+    (grind (arith, same, some, used), grind (arith, same, some, used))
 
 not-cut : {term : Term} {o : Outcome (M.Result term_values)} → B.ReadsBack term o → NotCut o
 not-cut (B.whole rows) = tt
@@ -99,11 +94,6 @@ text-read : (term : Term) → T (sound_term term) → (lim : Limits) (after : Li
 text-read term s lim after =
     let r = read-back_limits lim term s in
     rw (appended term_values lim (plain term) after _ refl (not-cut r)) r
-
--- no room is a limit
-room-limit : (n : ℕ) → (12 ≤ n) × (n ≤ 14) → T (is_limit n)
-unfolding is_limit
-room-limit n h = grind arith
 
 -- `decode` on a text with anything after it
 text-back : (term : Term) → T (sound_term term) → (after : List ℕ) (t : Tables) (d : Result Accepted Refused) (u : Tables) → decoded_as d u ≡ decode_answer (plain term ++ after) t
@@ -119,7 +109,7 @@ text-back term s after t d u promise =
         → in_terms bytes d u ≡ cond (over_bound bytes) (refused 1 0) (cond (ltb (length t.registers) register_words) (refused 2 0) o)
         → ((a : Accepted) → d ≡ Ok a → T (sound_table bytes u.rows a.used a.root.0)) → ReadsBack term (length (plain term)) bytes u d
     by (Err x) (B.whole rows) e sound = limit x (grind arith)
-    by (Err x) (B.no_room m q h) e sound = limit x (grind (arith, room-limit m h))
+    by (Err x) (B.no_room m q h) e sound = limit x (grind arith)
     by (Ok a) (B.no_room m q h) e sound = absurd (grind arith)
     by (Ok a) (B.whole rows) e sound =
         let count : a.consumed ≡ length (plain term) = grind arith in
@@ -157,11 +147,6 @@ written-reads_back message words used root scratch output w scratch' output' pro
     let wr = wrote message words used root scratch output n scratch' output' (rw q at promise) in
     rw (wr.text, wr.count) (text-back (term_at message (rows_of used words) root) wr.sound after t d u (rw wr.text at read))
 
-pub left-tables : (d : Result Accepted Refused) (u : Tables) → u ≡ (decoded_as d u).tables
-unfolding decoded_as decode_refusal
-left-tables (Ok a) u = refl
-left-tables (Err x) u = refl
-
 -- a round trip: what it answers, the buffers that it leaves, and that no reading is refused but for a limit
 module _ (message words : List ℕ) (used root : ℕ) (scratch output : List ℕ) (t : Tables) (scratch' output' : List ℕ) (u : Tables) where
   abbrev pub Trips : Result Accepted TripRefused → Type 0
@@ -179,27 +164,15 @@ module _ (message words : List ℕ) (used root : ℕ) (scratch output : List ℕ
   unfolding trip_as trip_says trip_leaves written_as write_refusal
   not_written_lem n promise e = (grind (arith, at_least_1 n), (grind (arith, at_least_1 n), λ x q. absurd (cc)))
 
-  -- what was read back, as a round trip's answer
-  trip_back : (d : Result Accepted Refused) → ReadsBack term (length (plain term)) (plain term) u d → take (length (plain term)) output' ≡ plain term → trip_as output' (reading d) u ≡ read_as term (decoded_as d u).root (in_terms (plain term) d u)
-  unfolding trip_as reading read_as in_terms decoded_as
-  trip_back d (same top count s e) p = rw (p, e)
-  trip_back d (limit x h) p = refl
-
-  only_limits : (d : Result Accepted Refused) → ReadsBack term (length (plain term)) (plain term) u d → (x : Refused) → reading d ≡ Err (NotRead x) → T (is_limit (number_of x.refusal))
-  unfolding reading
-  only_limits d (same top count s e) x q = absurd (cc)
-  only_limits d (limit y h) x q = let e : y ≡ x = cc in rw (← e) h
-
   written_read : (n : ℕ) (d : Result Accepted Refused) → written_as (Ok n) scratch' output' ≡ answer → decoded_as d u ≡ decode_answer (take n output') t → Trips (reading d)
-  unfolding trip_says trip_leaves written_as
+  unfolding trip_as reading read_as in_terms trip_says trip_leaves decoded_as decode_refusal written_as
   written_read n d promise read =
       let w = wrote message words used root scratch output n scratch' output' promise in
-      let zero : eqb answer.number 0 ≡ true = eq-eqb answer.number 0 (ap (λ (x : A.Written). x.number) (sym promise)) in
       let text : decoded_as d u ≡ decode_answer (plain term) t = rw w.text at read in
       let head : take (length (plain term)) output' ≡ plain term = rw w.count at w.text in
       let back : ReadsBack term (length (plain term)) (plain term) u d = rw append-nil at (text-back term w.sound [] t d u (rw append-nil text)) in
-      let tables : u ≡ (decode_answer (plain term) t).tables = left-tables d u ∙ ap (λ (x : A.Decoded). x.tables) text in
-      (rw zero (trip_back d back head ∙ ap₂ (read_as term) (ap (λ (x : A.Decoded). x.root) text) (machine_says_lem (plain term) t d u text)), (rw (zero, ← promise) (ap (buffers scratch' output') tables), only_limits d back))
+      let told = machine_says_lem (plain term) t d u text in
+      (grind (arith, back, head, text, told), (grind (arith, back, text), λ x q. grind (arith, back)))
 
   -- the answer w of the writing
   module _ (w : Result ℕ Refusal) (promise : written_as w scratch' output' ≡ answer) where

@@ -31,7 +31,7 @@ use Rattle.demands.specs.Demand2.{in_terms, machine_says}
 use Rattle.demands.specs.Demand3.{AcceptedCompare, Comparison, scratch_too_short, equal, different, comparison_as, comparison_says, comparison_buffers, comparison_leaves}
 use Rattle.demands.specs.declared.NotCompared.{NotCompared}
 use Rattle.demands.specs.declared.NotCompared.TheVariants.{First, Second, ShortScratch}
-use Rattle.demands.proofs.Demand2.{some-row, number, demand2}
+use Rattle.demands.proofs.Demand2.{number, demand2}
 use Rattle.demands.proofs.Numbers.{at_least_1}
 
 -- the term that the root row stands for, in a table that `decode` left
@@ -41,18 +41,6 @@ root_term message u a = term_at message (rows_of a.used u.rows) a.root.0
 -- the answer of `compare` on two accepted messages' tables: 2 where the scratch is too short, otherwise whether the texts are the same
 abbrev pub told : Bool → Bool → List ℕ → A.Compared
 told short same scratch = cond short (compare_refusal 2 scratch) (record { number = 0; equal = cond same 1 0; scratch = zeroed scratch })
-
--- what the comparison of two messages answers for it, whose tables `decode` left: the only refusal is that of the scratch
-verdict-told : (c : Result Bool Refusal) (scratch' : List ℕ) (short same : Bool) (scratch : List ℕ) → (compared_as c scratch').number ≡ (told short same scratch).number → (compared_as c scratch').equal ≡ (told short same scratch).equal
-    → comparison_as (result_or c (Err ShortScratch)) ≡ cond short scratch_too_short (cond same equal different)
-unfolding compared_as compare_refusal comparison_as
-verdict-told c scratch' short same scratch n e = grind (arith, at_least_1)
-
--- the scratch of any answer is the one left
-left-scratch : (c : Result Bool Refusal) (scratch' : List ℕ) → scratch' ≡ (compared_as c scratch').scratch
-unfolding compared_as compare_refusal
-left-scratch (Ok same) scratch' = refl
-left-scratch (Err n) scratch' = refl
 
 -- `compare`, on the tables that `decode` left of two accepted messages, refuses only a scratch shorter than the rows used of both
 pub accepted-answer : (message_a : List ℕ) (t_a u_a : Tables) (a : Accepted) → decoded_as (Ok a) u_a ≡ decode_answer message_a t_a
@@ -145,10 +133,8 @@ module _ (message_a rows message_b : List ℕ) (t : Tables) (scratch : List ℕ)
       pub both-accepted : (b : Accepted) → second_answer ≡ Ok b
           → (c : Result Bool Refusal) (scratch' : List ℕ) → compared_as c scratch' ≡ compare_answer message_a u_a.rows a.used a.root.0 message_b u_b.rows b.used b.root.0 scratch
           → Meets (result_or c (Err ShortScratch)) u_a.rows u_b scratch'
-      unfolding comparison_says comparison_leaves in_terms decoded_as
+      unfolding comparison_as comparison_says comparison_leaves in_terms decoded_as compared_as compare_refusal
       both-accepted b f c scratch' promise =
           let other : decoded_as (Ok b) u_b ≡ decode_answer message_b (lent t.rows u_a) = rw f at second in
           let answer = promise ∙ accepted-answer message_a (lent rows t) u_a a acceptance message_b (lent t.rows u_a) u_b b other scratch in
-          let same = same_bytes (plain (root_term message_a u_a a)) (plain (root_term message_b u_b b)) in
-          let told_c = verdict-told c scratch' (ltb (length scratch) (a.used + b.used)) same scratch (ap (λ (d : A.Compared). d.number) answer) (ap (λ (d : A.Compared). d.equal) answer) in
-          (rw (← says_a, ← says_b, f) told_c, rw (← acceptance, ← other, ← promise) (ap (comparison_buffers u_a.rows u_b) (left-scratch c scratch')))
+          (rw (← says_a, ← says_b, f) (grind (arith, at_least_1, answer)), rw (← acceptance, ← other, ← promise) (grind arith))

@@ -18,7 +18,7 @@ use Rattle.format.specs.Term.{Term, binary, tag}
 use Rattle.format.specs.Word as F
 use Rattle.format.specs.Word.{Format, formats, format_in, no_word, word_in, word_under, word_named, word_of_term}
 use Rattle.format.specs.Answer as A
-use Rattle.format.specs.Answer.{Tables, decode_answer, word_answer}
+use Rattle.format.specs.Answer.{Tables, decode_refusal, decode_answer, word_answer}
 use Rattle.std.specs.Prelude.{Result, Ok, Err}
 use Rattle.format.specs.Number.{number_of}
 use Rattle.format.specs.declared.Row.{Row}
@@ -35,7 +35,7 @@ use Rattle.words.specs.Answers.{word_as}
 use Rattle.demands.specs.Demand2.{in_terms, machine_says, ReadsWord, AcceptedWords, Reading, reading_as, word_found, word_says}
 use Rattle.demands.specs.declared.WordRefused.{WordRefused}
 use Rattle.demands.specs.declared.WordRefused.TheVariants as W
-use Rattle.demands.proofs.Demand2.{number, demand2, left-tables}
+use Rattle.demands.proofs.Demand2.{number, demand2}
 use Rattle.demands.proofs.Errors.{with_error}
 use Rattle.demands.proofs.Numbers.{at_least_1, same_refusal}
 
@@ -98,7 +98,8 @@ module _ (message : List ℕ) (t : Tables) (k : ℕ) where
 
   module _ (d : Result Accepted Refused) (u : Tables) (promise : decoded_as d u ≡ decode_answer message t) where
     left : u ≡ (decode_answer message t).tables
-    left = left-tables d u ∙ ap (λ (a : A.Decoded). a.tables) promise
+    unfolding decoded_as decode_refusal
+    left = grind arith
 
     pub not-decoded : (x : Refused) → d ≡ Err x → Meets (Err (W.NotDecoded x)) u
     unfolding reading_as word_says in_terms
