@@ -6,6 +6,7 @@ use mathlib.Core.List.{List}
 use native.Mathlib.Omega.{arith}
 use lib.Dec.{T, eqb, ltb, leb, lt→ltb, le→leb}
 use lib.ListN.{length}
+use lib.Ieee.Fits.{and_i}
 use borrow.Author.Tests.{eqb-true, eqb-false}
 use Rattle.format.specs.Term as T
 use Rattle.format.specs.Term.{Term, Terms, ◌then◌}
@@ -17,7 +18,6 @@ use Rattle.format.proofs.SameBytes.{same_bytes_lem, same_refl}
 use Rattle.format.proofs.SoundTerms.{table-term}
 use Rattle.format.proofs.TableRows as R
 use Rattle.format.proofs.TableRows.{length-rows, judged}
-use lib.Ieee.Fits.{and_i}
 use Rattle.format.proofs.Tests.{either}
 use Rattle.comparison.specs.Classes.{Side, Sound, term_in, same_term}
 use Rattle.comparison.specs.Same.{placed, has_span, SpanInside, same_span, same_class, same_cell, same_content, same_row}

@@ -4,12 +4,17 @@ use mathlib.Core.Path.{◌≡◌, refl, ap, sym, subst, ◌∙◌}
 use mathlib.Core.Bool.{Bool, true, false, cond}
 use mathlib.Core.Option.{none}
 use mathlib.Core.List.{List, ◌∷◌}
+use mathlib.Core.Logic.{inl, inr}
 use native.Mathlib.Nat.{not-suc-le-zero}
 use native.Mathlib.Omega.{arith}
 use lib.ListN.{length, drop, get_or, length-drop}
 use lib.Seq.{drop-drop}
 use lib.Dec.{ltb}
 use borrow.Author.Tests.{ltb-true, ltb-false}
+use Rattle.std.proofs.lemmas.Bool.{cases_eq}
+use Rattle.std.proofs.lemmas.List.Elements.{All-head, All-tail}
+use Rattle.std.specs.Prelude.{Ok, Err}
+use Rattle.std.specs.declared.ops.ControlFlow.TheVariants.{Continue, Break}
 use Rattle.format.specs.Bound.{register_words}
 use Rattle.format.specs.Lex.{lex}
 use Rattle.format.specs.Machine as M
@@ -22,17 +27,12 @@ use Rattle.format.specs.declared.Row.{Row as RowNumber}
 use Rattle.format.proofs.Items.{lex-ok}
 use Rattle.format.proofs.Moves as Mv
 use Rattle.format.proofs.Moves.{move, Inside, inside}
-use mathlib.Core.Logic.{inl, inr}
-use Rattle.std.proofs.lemmas.Bool.{cases_eq}
-use Rattle.std.proofs.lemmas.List.Elements.{All-head, All-tail}
 use Rattle.format.proofs.SoundRows.{Low, Below, Kept, Accepted, keeps, start-kept}
 use Rattle.format.proofs.Decoded.{rows_in_lem}
 use Rattle.format.proofs.TableRows.{length-rows}
 use Rattle.table.specs.Words.{last_first}
 use Rattle.table.proofs.Rows.{length-last_first, get_d_zeros}
 use Rattle.machine.specs.declared.state.State.{State}
-use Rattle.std.specs.Prelude.{Ok, Err}
-use Rattle.std.specs.declared.ops.ControlFlow.TheVariants.{Continue, Break}
 use Rattle.machine.specs.Held.{Ready, register_in, machine_of, turn, after, limited, taken}
 use Rattle.decoder.proofs.Within.{Within, skipped}
 

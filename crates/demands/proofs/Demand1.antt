@@ -1,25 +1,18 @@
 -- Demand 1 of `decode`, of `write` and of `compare`.
-use Prim.Native.Nat.{ℕ, zero, suc, ◌+◌, ◌≤◌}
-use mathlib.Core.Path.{◌≡◌, refl, ap, sym, ◌∙◌}
-use mathlib.Core.Bool.{Bool, true, false, ◌&&◌, ◌||◌, not, cond}
-use mathlib.Core.List.{List, [], ◌++◌}
+use Prim.Native.Nat.{ℕ}
+use mathlib.Core.Path.{◌≡◌, refl}
+use mathlib.Core.Bool.{Bool}
+use mathlib.Core.List.{List}
 use native.Mathlib.Omega.{arith}
-use lib.ListN.{length, drop}
 use lib.Seq.{drop-append_seam}
-use lib.Dec.{ltb}
-use Rattle.format.specs.Bound.{register_words}
-use Rattle.std.specs.Prelude.{Result, Ok, Err}
+use Rattle.std.specs.Prelude.{Result}
 use Rattle.format.specs.Machine as M
 use Rattle.format.specs.Machine.{Outcome, refused, accepted, run}
-use Rattle.format.specs.Number.{number_of}
-use Rattle.format.specs.Rows.{row_values, rows_of, term_at}
-use Rattle.format.specs.Sound.{sound_table}
-use Rattle.format.specs.Answer as A
-use Rattle.format.specs.Answer.{Tables, over_bound, limits_of, zeroed, cleared, decode_refusal, decode_result, decode_answer, write_refusal, write_text, write_answer, compare_refusal, compare_answer}
+use Rattle.format.specs.Rows.{row_values}
+use Rattle.format.specs.Answer.{Tables, limits_of, decode_refusal, decode_result, decode_answer, write_refusal, write_text, write_answer, compare_refusal, compare_answer}
 use Rattle.format.proofs.RowCount.{machine-number}
 use Rattle.format.proofs.Sizes.{plain_size}
 use Rattle.format.proofs.SoundRows.{accepted-rows}
-use Rattle.format.proofs.Written.{text, Writes, early, late, whole, writes}
 use Rattle.format.specs.declared.refusal.Refusal.{Refusal}
 use Rattle.format.specs.declared.refusal.Refused.{Refused}
 use Rattle.decoder.specs.Answers.{decoded_as}

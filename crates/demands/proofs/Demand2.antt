@@ -1,47 +1,41 @@
 -- Demand 2 of `decode`, and of `write` and `decode` together.
 use Prim.Native.Nat.{ℕ, ◌≤◌}
-use mathlib.Core.Path.{◌≡◌, refl, ap, ap₂, sym, ◌∙◌}
-use mathlib.Core.Bool.{Bool, true, false, cond}
-use mathlib.Core.Option.{some}
+use mathlib.Core.Path.{◌≡◌, refl, ap, sym, ◌∙◌}
+use mathlib.Core.Bool.{cond}
 use mathlib.Core.List.{List, [], ◌++◌, append-nil}
 use native.Mathlib.Omega.{arith}
 use lib.ListN.{length, take, drop, length-append}
 use lib.Seq.{take-append_seam}
-use lib.Dec.{eqb, ltb, T}
-use borrow.Author.Tests.{eq-eqb, ne_eqb, eqb-false, ltb-false}
-use Rattle.format.specs.Bound.{register_words}
+use lib.Dec.{ltb, T}
+use borrow.Author.Tests.{ltb-false}
 use Rattle.std.specs.Prelude.{Result, Ok, Err}
+use Rattle.format.specs.Bound.{register_words}
 use Rattle.format.specs.Machine as M
 use Rattle.format.specs.Machine.{Limits, Outcome, refused, accepted, run}
 use Rattle.format.specs.Number.{number_of}
-use Rattle.format.specs.Meaning.{term_values, message_term}
+use Rattle.format.specs.Meaning.{term_values}
 use Rattle.format.specs.Rows.{row_values, rows_of, term_at}
 use Rattle.format.specs.Sound.{sound_table, sound_term}
 use Rattle.format.specs.Term.{Term}
 use Rattle.format.specs.Text.{plain}
 use Rattle.format.specs.Answer as A
 use Rattle.format.specs.Answer.{Tables, over_bound, limits_of, rows_in, cleared, decode_refusal, decode_result, decode_answer, write_refusal, write_text, write_answer}
-use Rattle.format.specs.declared.Row.{Row}
 use Rattle.format.proofs.Decoded.{rows_in_lem, accepts, decoded-sound, decoded-term}
 use Rattle.format.proofs.ReadBack as B
 use Rattle.format.proofs.ReadBack.{read-back_limits}
 use Rattle.format.proofs.RowCount.{machine-number}
 use Rattle.format.proofs.Simulation as S
 use Rattle.format.proofs.Simulation.{same_answer}
-use Rattle.format.proofs.Sizes.{plain_size}
-use Rattle.format.proofs.SoundRows as R
 use Rattle.format.proofs.SoundRows.{accepted-rows}
 use Rattle.format.proofs.SoundTerms.{table-term}
 use Rattle.format.proofs.Suffix.{NotCut, appended}
 use Rattle.format.proofs.Unchanged.{unchanged}
-use Rattle.format.proofs.Tests.{either}
-use Rattle.format.proofs.Written.{Writes, early, late, whole, writes}
 use Rattle.format.specs.declared.refusal.Refusal.{Refusal}
 use Rattle.format.specs.declared.refusal.Refused.{Refused}
 use Rattle.decoder.specs.Answers.{decoded_as}
 use Rattle.decoder.specs.declared.Accepted.{Accepted}
 use Rattle.text.specs.Answers.{written_as}
-use Rattle.demands.specs.Demand2.{in_terms, machine_says, DecodeMeans, NothingChanges, is_limit, ReadsBack, same, limit, WrittenReadsBack, not_written, reading, read_as, trip_as, trip_says, buffers, trip_leaves}
+use Rattle.demands.specs.Demand2.{in_terms, machine_says, DecodeMeans, NothingChanges, is_limit, ReadsBack, same, limit, WrittenReadsBack, reading, read_as, trip_as, trip_says, buffers, trip_leaves}
 use Rattle.demands.proofs.Numbers.{at_least_1}
 use Rattle.demands.specs.declared.TripRefused.{TripRefused}
 use Rattle.demands.specs.declared.TripRefused.TheVariants.{NotWritten, NotRead}

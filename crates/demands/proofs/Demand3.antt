@@ -1,12 +1,15 @@
 -- Demand 3 of `decode` and `compare` together.
 use Prim.Native.Nat.{ℕ, ◌+◌}
-use mathlib.Core.Path.{◌≡◌, refl, ap, sym, ◌∙◌}
-use mathlib.Core.Bool.{Bool, true, false, cond}
+use mathlib.Core.Path.{◌≡◌, refl, ap, ◌∙◌}
+use mathlib.Core.Bool.{Bool, false, cond}
 use mathlib.Core.List.{List}
 use native.Mathlib.Omega.{arith}
 use lib.ListN.{length, length-replicate}
 use lib.Dec.{eqb, ltb}
+use lib.Ieee.Bits.{is_true}
 use borrow.Author.Tests.{le-ltb, ne_eqb}
+use Rattle.std.specs.Prelude.{Result, Ok, Err}
+use Rattle.std.specs.Result.{result_or}
 use Rattle.format.specs.Byte.{same_bytes}
 use Rattle.format.specs.Rows.{rows_of, term_at}
 use Rattle.format.specs.Sound.{sound_table}
@@ -14,13 +17,9 @@ use Rattle.format.specs.Term.{Term}
 use Rattle.format.specs.Text.{plain}
 use Rattle.format.specs.Answer as A
 use Rattle.format.specs.Answer.{Tables, SameLengths, zeroed, cleared, decode_refusal, decode_result, decode_answer, compare_refusal, compare_answer, tables}
-use Rattle.format.specs.declared.Row.{Row}
 use Rattle.format.proofs.Decoded.{accepts}
 use Rattle.format.proofs.SameBytes.{same_bytes_lem, same_refl}
-use lib.Ieee.Bits.{is_true}
 use Rattle.format.proofs.Unchanged.{same-limits}
-use Rattle.std.specs.Prelude.{Result, Ok, Err}
-use Rattle.std.specs.Result.{result_or}
 use Rattle.format.specs.Number.{number_of}
 use Rattle.format.specs.declared.refusal.Refusal.{Refusal}
 use Rattle.format.specs.declared.refusal.Refused.{Refused}
@@ -28,7 +27,7 @@ use Rattle.decoder.specs.Answers.{decoded_as}
 use Rattle.decoder.specs.declared.Accepted.{Accepted}
 use Rattle.comparison.specs.Answers.{compared_as}
 use Rattle.demands.specs.Demand2.{in_terms, machine_says}
-use Rattle.demands.specs.Demand3.{AcceptedCompare, Comparison, scratch_too_short, equal, different, comparison_as, comparison_says, comparison_buffers, comparison_leaves}
+use Rattle.demands.specs.Demand3.{AcceptedCompare, comparison_as, comparison_says, comparison_buffers, comparison_leaves}
 use Rattle.demands.specs.declared.NotCompared.{NotCompared}
 use Rattle.demands.specs.declared.NotCompared.TheVariants.{First, Second, ShortScratch}
 use Rattle.demands.proofs.Demand2.{number, demand2}

@@ -1,38 +1,32 @@
 -- Demand 2's last sentence, of `decode` and `read_word` together.
-use Prim.Native.Nat.{ℕ, ◌/◌, ◌%◌, ◌<◌}
+use Prim.Native.Nat.{ℕ, ◌<◌}
 use mathlib.Core.Path.{◌≡◌, refl, ap, sym, ◌∙◌}
-use mathlib.Core.Bool.{Bool, true, false}
+use mathlib.Core.Bool.{true}
 use mathlib.Core.Option.{some}
 use mathlib.Core.List.{List, []}
-use native.Mathlib.Nat.{zero-add}
+use mathlib.Core.Logic.{inl, inr}
 use native.Mathlib.Omega.{arith}
 use lib.ListN.{length, get_or-eq_default}
-use lib.Dec.{T, ltb}
+use lib.Dec.{T}
 use lib.IntN.{ℤ}
-use borrow.Author.Tests.{eq-eqb, ne_eqb, le-leb, lt-leb, lt-ltb, ltb-true, ltb-false}
-use mathlib.Core.Logic.{inl, inr}
+use lib.Ieee.Bits.{is_true}
+use borrow.Author.Tests.{le-leb, lt-ltb}
 use Rattle.std.proofs.lemmas.Bool.{cases_lt}
+use Rattle.std.specs.Prelude.{Result, Ok, Err}
 use Rattle.format.specs.Rows.{rows_of, row_room, no_term, terms_after, term_at}
 use Rattle.format.specs.Sound.{count_fits, root_among, sound_rows, sound_table}
 use Rattle.format.specs.Term.{Term, binary, tag}
-use Rattle.format.specs.Word as F
-use Rattle.format.specs.Word.{Format, formats, format_in, no_word, word_in, word_under, word_named, word_of_term}
-use Rattle.format.specs.Answer as A
+use Rattle.format.specs.Word.{Format, formats, format_in, word_in, word_under, word_named, word_of_term}
 use Rattle.format.specs.Answer.{Tables, decode_refusal, decode_answer, word_answer}
-use Rattle.std.specs.Prelude.{Result, Ok, Err}
-use Rattle.format.specs.Number.{number_of}
-use Rattle.format.specs.declared.Row.{Row}
 use Rattle.format.proofs.Decoded.{accepts}
 use Rattle.format.proofs.TableRows.{terms_length}
 use Rattle.format.proofs.TableRows.{length-rows, passed}
-use lib.Ieee.Bits.{is_true}
 use Rattle.format.specs.declared.refusal.Refusal.{Refusal}
-use Rattle.format.specs.declared.refusal.Refusal.TheVariants.{Uneven, NoWord}
 use Rattle.format.specs.declared.refusal.Refused.{Refused}
 use Rattle.decoder.specs.Answers.{decoded_as}
 use Rattle.decoder.specs.declared.Accepted.{Accepted}
 use Rattle.words.specs.Answers.{word_as}
-use Rattle.demands.specs.Demand2.{in_terms, machine_says, ReadsWord, AcceptedWords, Reading, reading_as, word_found, word_says}
+use Rattle.demands.specs.Demand2.{in_terms, machine_says, ReadsWord, AcceptedWords, reading_as, word_found, word_says}
 use Rattle.demands.specs.declared.WordRefused.{WordRefused}
 use Rattle.demands.specs.declared.WordRefused.TheVariants as W
 use Rattle.demands.proofs.Demand2.{number, demand2}

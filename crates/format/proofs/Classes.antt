@@ -3,9 +3,9 @@ use Prim.Native.Nat.{ℕ, ◌<◌}
 use mathlib.Core.Path.{◌≡◌, refl}
 use mathlib.Core.Bool.{Bool, ◌||◌, ◌&&◌, not}
 use lib.Dec.{eqb, leb}
+use Rattle.std.proofs.lemmas.Bool.{agree_below_at}
 use Rattle.format.specs.Byte as B
 use Rattle.format.specs.Byte.{class_of, class_in, specials, has_class}
-use Rattle.std.proofs.lemmas.Bool.{agree_below_at}
 
 pub white_bytes : (b : ℕ) → b < 256 → has_class B.white b ≡ eqb b 32 || eqb b 10 || eqb b 9 || eqb b 13
 unfolding has_class class_of class_in specials

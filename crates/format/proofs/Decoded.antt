@@ -1,19 +1,18 @@
 -- What an accepted decoding leaves: a sound table whose root row stands for the message's term.
 use Prim.Native.Nat.{ℕ, ◌*◌, ◌≤◌}
 use mathlib.Core.Path.{◌≡◌, refl, ap, sym, ◌∙◌}
-use mathlib.Core.Bool.{Bool, true, false, ◌&&◌}
+use mathlib.Core.Bool.{false}
 use mathlib.Core.Option.{some}
 use mathlib.Core.List.{List, [], ◌∷◌, ◌++◌}
 use native.Mathlib.Omega.{arith}
 use lib.ListN.{length, length-append, length-replicate}
-use lib.Dec.{ltb, leb, T, lt→ltb, le→leb}
-use Rattle.format.specs.Bound.{register_words}
+use lib.Dec.{T, lt→ltb, le→leb}
+use lib.Ieee.Fits.{and_i}
 use Rattle.format.specs.Machine.{Limits, Result, Outcome, refused, accepted, run}
 use Rattle.format.specs.Meaning.{term_values, accepted_value, message_term}
 use Rattle.format.specs.Rows.{Row, row_values, row_words, term_at, words_of, rows_of, row_room}
-use Rattle.format.specs.Sound.{count_fits, root_among, sound_rows, sound_table}
+use Rattle.format.specs.Sound.{count_fits, root_among, sound_table}
 use Rattle.format.specs.Answer.{Tables, over_bound, limits_of, rows_in, cleared, decode_refusal, decode_result, decode_answer}
-use lib.Ieee.Fits.{and_i}
 use Rattle.format.proofs.Simulation.{in_terms, same_answer}
 use Rattle.format.proofs.SoundRows.{accepted-rows}
 use Rattle.format.proofs.Limits.{accepted-free, rows_fit}

@@ -1,9 +1,9 @@
 -- What one item may add to the machine, by its move.
-use Prim.Native.Nat.{ℕ, ◌+◌, ◌-◌, ◌≤◌}
+use Prim.Native.Nat.{ℕ, ◌+◌, ◌≤◌}
 use mathlib.Core.Path.{◌≡◌, ap}
 use mathlib.Core.List.{List}
 use native.Mathlib.Omega.{arith}
-use lib.ListN.{length, drop, length-drop}
+use lib.ListN.{length, length-drop}
 use Rattle.format.specs.Machine as M
 use Rattle.format.specs.Machine.{Values, Machine, Shape, Step, refuse, go, finish}
 use Rattle.format.proofs.Moves as Mv

@@ -1,14 +1,11 @@
 -- What `place` holds, a refusal's place or the bytes consumed, is never past the slice's end: so it is at most the message bound.
 use Prim.Native.Nat.{ℕ, zero, suc, ◌+◌, ◌≤◌}
-use mathlib.Core.Path.{◌≡◌, refl}
-use mathlib.Core.Bool.{Bool, true, false, cond}
 use mathlib.Core.List.{List, [], ◌∷◌}
 use native.Mathlib.Omega.{arith}
 use lib.ListN.{length}
-use lib.Dec.{ltb}
 use borrow.Author.Tests.{ltb-false}
 use Rattle.format.specs.Answer.{Tables, over_bound, limits_of, decode_refusal, decode_result, decode_answer}
-use Rattle.format.specs.Bound.{message_bound, register_words}
+use Rattle.format.specs.Bound.{message_bound}
 use Rattle.format.specs.Lex.{lex}
 use Rattle.format.specs.Machine as M
 use Rattle.format.specs.Machine.{Values, Machine, Limits, Step, Outcome, Result, refuse, go, finish, refused, accepted, run}

@@ -2,16 +2,23 @@
 use Prim.Native.Nat.{ℕ, zero, suc, ◌+◌, ◌-◌, ◌/◌, ◌%◌, ◌≤◌, ◌<◌}
 use Prim.Native.Char.{code}
 use mathlib.Core.Path.{◌≡◌, refl, ap, ap₂, sym, ◌∙◌, subst}
-use mathlib.Core.Bool.{Bool, true, false, ◌||◌, not}
+use mathlib.Core.Bool.{Bool, true, false}
 use mathlib.Core.Option.{none, some}
 use mathlib.Core.List.{List, [], ◌∷◌, ◌++◌, append_assoc, reverse, reverse_aux, reverse_aux-eq, reverse-reverse}
+use mathlib.Core.Logic.{inl, inr}
 use native.Mathlib.Nat.{add-zero, zero-add}
 use native.Mathlib.Omega.{arith}
+use native.Mathlib.Numerals.{add-one}
 use lib.IntN.{ℤ, pos, negsuc, neg_ℤ}
 use lib.ListN.{length, take, length-append}
 use lib.Seq.{take-append_seam, get_or-append_seam}
 use lib.Dec.{eqb, ltb, T, eqb_refl}
+use lib.Ieee.Bits.{is_true}
+use lib.Ieee.Fits.{and_l, and_r}
 use borrow.Author.Tests.{ltb-true, ltb-false, lt-leb}
+use Rattle.std.specs.List.{range_with_len}
+use Rattle.std.proofs.lemmas.Bool.{cases_Bool}
+use Rattle.std.proofs.lemmas.List.{length_push}
 use Rattle.format.specs.Byte as B
 use Rattle.format.specs.Byte.{class_of, class_in, specials, has_class}
 use Rattle.format.specs.Term as T
@@ -21,14 +28,7 @@ use Rattle.format.specs.Lex.{Item, integer_item, atom_item, string_item, tag_ite
 use Rattle.format.specs.Machine.{Machine, Limits, Outcome, Result, refused, accepted, run, go, base, start, fresh, take_binary, cons_list, only_value, end_message, step, follow, run_free_from, run_free}
 use Rattle.format.specs.Meaning.{term_integer, term_is_list, items_of, term_of, term_values, accepted_value, message_term}
 use Rattle.format.specs.Sound.{spelled, sound_term, sound_terms}
-use lib.Ieee.Bits.{is_false, is_true}
-use lib.Ieee.Fits.{and_l, and_r}
 use Rattle.format.proofs.Limits.{Under, NoRoom, refuses, accepts, short, under-limits}
-use Rattle.std.specs.List.{range_with_len}
-use Rattle.std.proofs.lemmas.Bool.{cases_Bool}
-use Rattle.std.proofs.lemmas.List.{length_push}
-use native.Mathlib.Numerals.{add-one}
-use mathlib.Core.Logic.{inl, inr}
 use Rattle.format.proofs.Table.{entry}
 use Rattle.format.proofs.FreeRun.{free-go, free-skip, pop_ok, close_ok}
 

@@ -1,13 +1,11 @@
 -- What the test of bytes shows: it passes exactly where two texts are the same.
 use Prim.Native.Nat.{ℕ}
-use mathlib.Core.Path.{◌≡◌, refl, ap₂}
+use mathlib.Core.Path.{◌≡◌, refl}
 use mathlib.Core.Bool.{true}
 use mathlib.Core.List.{List, [], ◌∷◌}
 use native.Mathlib.Omega.{arith}
-use lib.Dec.{T, eqb, eqb→eq}
 use borrow.Author.Tests.{eq-eqb, eqb-true}
 use Rattle.format.specs.Byte.{same_bytes}
-use lib.Ieee.Fits.{and_l, and_r}
 
 pub same_bytes_lem : (x y : List ℕ) → same_bytes x y ≡ true → x ≡ y
 unfolding same_bytes

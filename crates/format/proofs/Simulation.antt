@@ -1,16 +1,16 @@
 -- Theorem 2: the machine at rows does what the machine at terms does.
 use Prim.Native.Nat.{ℕ, zero, suc, ◌+◌, ◌*◌, ◌-◌, ◌/◌, ◌%◌, ◌^◌, ◌≤◌, ◌<◌}
 use Prim.Native.Char.{code}
-use mathlib.Core.Path.{◌≡◌, refl, ap, ap₂, sym, ◌∙◌}
+use mathlib.Core.Path.{◌≡◌, refl, ap, ap₂, ◌∙◌}
 use mathlib.Core.Bool.{Bool, true, false, cond}
 use mathlib.Core.Option.{Option, none, some}
 use mathlib.Core.List.{List, [], ◌∷◌, ◌++◌, reverse_aux}
-use native.Mathlib.Nat.{add-zero}
 use native.Mathlib.Omega.{arith}
 use lib.IntN.{ℤ, pos, negsuc}
 use lib.ListN.{length, get_or, take, drop, length-append, get_or-append}
 use lib.Dec.{eqb, ltb, leb, T}
 use lib.Seq.{length-take-le, get_or-append_seam, get_or_at}
+use lib.Ieee.Bits.{is_true}
 use borrow.Author.Tests.{ltb-true, le-ltb, leb-false}
 use Rattle.format.specs.Lex as L
 use Rattle.format.specs.Lex.{Item, in_range, lex}
@@ -21,7 +21,6 @@ use Rattle.format.specs.Bits.{to_bits, from_bits}
 use Rattle.format.specs.Rows.{Row, row, row_values, make_rows, add, add_tuple, integer_row, span_row, nil_row, cons_row, end_row, field_row, tag_row, row_at, integer_of_row, row_integer, is_list_kind, no_term, fields_of, span_of, term_of_row, terms_after, term_at}
 use Rattle.format.specs.Machine as M
 use Rattle.format.specs.Machine.{Machine, Shape, Step, Outcome, Result, Limits, base, refuse, go, finish, refused, accepted, run}
-use lib.Ieee.Bits.{is_true}
 use Rattle.format.proofs.Lists.{drop-next}
 use Rattle.format.proofs.TableRows.{terms_append, terms_length}
 use Rattle.format.proofs.Items.{ItemOk, lex-ok}

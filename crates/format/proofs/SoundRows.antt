@@ -1,14 +1,15 @@
 -- Theorem 3: the rows of an accepted message are sound, and its root is among them.
-use Prim.Native.Nat.{ℕ, zero, suc, ◌+◌, ◌-◌, ◌≤◌, ◌<◌}
+use Prim.Native.Nat.{ℕ, suc, ◌+◌, ◌-◌, ◌≤◌, ◌<◌}
 use Prim.Native.Char.{code}
 use mathlib.Core.Path.{◌≡◌, refl, ap, sym, ◌∙◌, subst}
-use mathlib.Core.Bool.{Bool, true, false, ◌&&◌, cond}
+use mathlib.Core.Bool.{true, ◌&&◌}
 use mathlib.Core.Option.{Option, none, some}
-use mathlib.Core.List.{List, [], ◌∷◌, ◌++◌, append_assoc, append-nil, reverse, reverse_aux}
+use mathlib.Core.List.{List, [], ◌∷◌, ◌++◌, append_assoc, append-nil, reverse}
 use native.Mathlib.Omega.{arith}
 use lib.ListN.{length, take, drop, length-append, length-drop, length-reverse}
 use lib.Seq.{get_or-append_seam, length-take-le}
 use lib.Dec.{eqb, ltb, T, lt→ltb, le→leb}
+use lib.Ieee.Fits.{and_i, and_l, and_r}
 use Rattle.std.proofs.lemmas.Bool.{cond_both}
 use Rattle.std.proofs.lemmas.List.Elements.{All-nil, All-cons, All-head, All-tail, All-weaker, All-take, All-drop}
 use Rattle.std.proofs.lemmas.List.Sorted.{All-permutation, IsPermutation-reverse}
@@ -17,7 +18,6 @@ use Rattle.format.specs.Rows.{Row, row_values, make_rows, add, add_tuple, intege
 use Rattle.format.specs.Sound.{in_slice, spelled_in, sound_row, sound_rest, sound_after, sound_rows}
 use Rattle.format.specs.Machine as M
 use Rattle.format.specs.Machine.{Machine, Shape, Limits, Step, Result, accepted, run}
-use lib.Ieee.Fits.{and_i, and_l, and_r}
 use Rattle.format.proofs.Lists.{drop-next}
 use Rattle.format.proofs.Items.{Quoted}
 use Rattle.format.proofs.Moves as Mv

@@ -1,26 +1,24 @@
 -- The rows of a sound table stand for sound terms.
-use Prim.Native.Nat.{ℕ, zero, suc, ◌+◌, ◌-◌, ◌*◌, ◌^◌, ◌≤◌, ◌<◌}
-use Prim.Native.Char.{code}
-use mathlib.Core.Path.{◌≡◌, refl}
+use Prim.Native.Nat.{ℕ, ◌+◌, ◌^◌, ◌≤◌, ◌<◌}
 use mathlib.Core.Bool.{Bool, true, false, ◌&&◌, cond}
 use mathlib.Core.List.{List, [], ◌∷◌, ◌++◌}
+use mathlib.Core.Logic.{inl, inr}
 use native.Mathlib.Omega.{arith}
-use lib.IntN.{pos, negsuc}
+use lib.IntN.{pos}
 use lib.ListN.{length, get_or, take, drop, length-take, get_or-eq_default}
-use lib.Dec.{eqb, ltb, T, lt→ltb, leb→le}
+use lib.Dec.{T, lt→ltb, leb→le}
+use lib.Ieee.Fits.{and_i, and_l, and_r}
 use borrow.Author.Tests.{ltb-true, ltb-false}
 use Rattle.std.proofs.lemmas.List.Elements.{All-nil, All-push}
 use Rattle.std.proofs.lemmas.Bool.{cases_lt}
-use mathlib.Core.Logic.{inl, inr}
 use Rattle.std.specs.List.{All}
 use Rattle.format.specs.Lex.{in_range}
 use Rattle.format.specs.Term as T
 use Rattle.format.specs.Term.{Term}
 use Rattle.format.specs.Meaning.{items_of}
 use Rattle.format.specs.Bits.{from_bits}
-use Rattle.format.specs.Rows.{Row, integer_kind, atom_kind, string_kind, binary_kind, nil_kind, cons_kind, end_kind, field_kind, tag_kind, integer_of_row, no_term, fields_of, span_of, term_of_row, terms_after, term_at, rows_of}
+use Rattle.format.specs.Rows.{Row, integer_of_row, no_term, fields_of, span_of, term_of_row, terms_after, term_at, rows_of}
 use Rattle.format.specs.Sound.{spelled, in_slice, spelled_in, sound_row, sound_rest, sound_after, sound_rows, sound_table, sound_term, sound_terms}
-use lib.Ieee.Fits.{and_i, and_l, and_r}
 use Rattle.format.proofs.TableRows.{passed}
 
 -- two's complement of 64 bits is in range, whatever the words hold

@@ -1,16 +1,11 @@
 -- A rule that holds at every entry of a table, by one test that the checker computes.
-use Prim.Native.Nat.{ℕ, zero, suc, ◌<◌}
-use mathlib.Core.Path.{◌≡◌, refl, sym, ap, ◌∙◌}
-use mathlib.Core.Bool.{Bool, true, false, ◌&&◌, not, cond}
+use Prim.Native.Nat.{ℕ, ◌<◌}
+use mathlib.Core.Path.{◌≡◌, sym, ap, ◌∙◌}
 use mathlib.Core.List.{List, map}
-use native.Mathlib.Nat.{zero-add, not-suc-le-zero}
-use native.Mathlib.Omega.{arith}
-use lib.Dec.{T, eqb}
-use borrow.Author.Tests.{eqb-true, eqb-false}
+use native.Mathlib.Nat.{zero-add}
 use lib.ListN.{get_or, get_or-map}
 use Rattle.std.specs.List.{range_with_len}
 use Rattle.std.proofs.lemmas.List.FromFn.{get_or-map-range_with_len}
-use lib.Ieee.Fits.{and_l, and_r}
 
 -- a table whose entries, told by g, are f of each number below n
 pub entry : {A B : Type 0} (g : A → B) (f : ℕ → B) (xs : List A) (n : ℕ) (d : A) → map g xs ≡ map f (range_with_len 0 n) → (k : ℕ) → k < n → g (get_or xs k d) ≡ f k

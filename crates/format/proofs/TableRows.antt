@@ -3,22 +3,20 @@
 use Prim.Native.Nat.{ℕ, zero, suc, ◌+◌, ◌≤◌, ◌<◌}
 use Prim.Native.Char.{code}
 use mathlib.Core.Path.{◌≡◌, refl, ap, ap₂, sym, ◌∙◌}
-use mathlib.Core.Bool.{Bool, true, false, ◌&&◌}
+use mathlib.Core.Bool.{false, ◌&&◌}
 use mathlib.Core.List.{List, [], ◌∷◌, ◌++◌, append_assoc}
-use native.Mathlib.Nat.{add-zero, zero-add}
+use mathlib.Core.Logic.{inl, inr}
 use native.Mathlib.Omega.{arith}
 use lib.ListN.{length, get_or, take, drop, length-append, get_or-append}
 use lib.Seq.{get_or-append_seam, get_or_at, length-take-le, split_at}
 use lib.Dec.{eqb, ltb, T, ltb→lt, leb→le}
-use borrow.Author.Tests.{eqb-true, eqb-false}
-use mathlib.Core.Logic.{inl, inr}
+use lib.Ieee.Fits.{and_l, and_r}
 use Rattle.std.proofs.lemmas.Bool.{cases_eq}
 use Rattle.format.specs.Term as T
 use Rattle.format.specs.Term.{Term, ◌then◌}
 use Rattle.format.specs.Meaning.{items_of}
 use Rattle.format.specs.Rows.{Row, row, row_at, row_words, rows_of, row_room, integer_kind, atom_kind, string_kind, binary_kind, nil_kind, cons_kind, end_kind, field_kind, tag_kind, integer_of_row, span_of, fields_of, no_term, term_of_row, terms_after, term_at}
 use Rattle.format.specs.Sound.{in_slice, spelled, spelled_in, count_fits, root_among, sound_row, sound_rest, sound_after, sound_rows, sound_table}
-use lib.Ieee.Fits.{and_l, and_r}
 use Rattle.format.proofs.Tests.{either}
 
 -- as many rows lie in words as are read there

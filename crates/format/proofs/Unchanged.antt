@@ -1,13 +1,11 @@
 -- Theorem 5 of the whole answer: bytes after the `$` of an accepted message, and the tables' old contents, change nothing.
 use Prim.Native.Nat.{ℕ, ◌≤◌}
 use mathlib.Core.Path.{◌≡◌, refl, ap, sym, ◌∙◌}
-use mathlib.Core.Bool.{Bool, true, false}
 use mathlib.Core.List.{List, [], ◌++◌}
 use native.Mathlib.Omega.{arith}
 use lib.ListN.{length}
-use lib.Dec.{ltb}
 use borrow.Author.Tests.{le-ltb}
-use Rattle.format.specs.Bound.{message_bound, register_words}
+use Rattle.format.specs.Bound.{message_bound}
 use Rattle.format.specs.Machine.{Outcome, Result, refused, accepted, run}
 use Rattle.format.specs.Rows.{Row, row_values, row_room}
 use Rattle.format.specs.Answer.{Tables, SameLengths, Decoded, over_bound, zeroed, limits_of, rows_in, cleared, decode_refusal, decode_result, decode_answer}

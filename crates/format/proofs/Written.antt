@@ -1,11 +1,9 @@
 -- What a writing leaves: a refusal changes no output byte; otherwise the text of a sound table's root lies at the head of the output.
 use Prim.Native.Nat.{ℕ, ◌≤◌}
-use mathlib.Core.Path.{◌≡◌, refl, sym, subst}
-use mathlib.Core.Bool.{Bool, true, false, not, cond}
 use mathlib.Core.List.{List, ◌++◌}
 use native.Mathlib.Omega.{arith}
 use lib.ListN.{length, drop}
-use lib.Dec.{ltb, T}
+use lib.Dec.{T}
 use borrow.Author.Tests.{ltb-false}
 use Rattle.format.specs.Bound.{message_bound}
 use Rattle.format.specs.Rows.{rows_of, term_at}

@@ -8,10 +8,10 @@ use native.Mathlib.Omega.{arith}
 use lib.ListN.{length, drop, get_or}
 use lib.Seq.{drop-cons}
 use lib.Dec.{T, eqb, leb, leb→le}
+use lib.Ieee.Fits.{and_l, and_r}
 use borrow.Author.Tests.{eqb-true}
 use Rattle.format.specs.Byte as B
 use Rattle.format.specs.Byte.{Class, Entry, ◌is◌, specials, class_in, class_of, class_code, has_class}
-use lib.Ieee.Fits.{and_l, and_r}
 
 pub byte_at : (message : List ℕ) (i : ℕ) → i < length message → drop i message ≡ get_or message i 0 ∷ drop (i + 1) message
 byte_at message i h = rw (add-one, drop-cons message i 0)

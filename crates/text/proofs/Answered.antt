@@ -3,18 +3,18 @@ use Prim.Native.Nat.{ℕ, ◌≤◌, ◌<◌}
 use mathlib.Core.Path.{◌≡◌, refl, ◌∙◌}
 use mathlib.Core.Bool.{Bool, true, false, ◌&&◌, not, cond}
 use mathlib.Core.List.{List, ◌++◌}
-use Rattle.std.specs.Prelude.{Result, Ok, Err}
 use lib.Dec.{T, leb, leb→le, ltb→lt}
 use lib.ListN.{length, take, drop}
 use lib.Seq.{length-take-le}
+use lib.Ieee.Fits.{and_l, and_r}
 use borrow.Author.Tests.{lt-ltb, le-ltb, leb-true, leb-false}
+use Rattle.std.specs.Prelude.{Result, Ok, Err}
 use Rattle.format.specs.Bound.{message_bound}
 use Rattle.format.specs.Rows.{Row, rows_of, row_room, term_at}
 use Rattle.format.specs.Sound.{count_fits, root_among, sound_rows, sound_table}
 use Rattle.format.specs.Text.{plain}
 use Rattle.format.specs.Answer as A
 use Rattle.format.specs.Answer.{over_bound, zeroed, write_text, write_answer}
-use lib.Ieee.Fits.{and_l, and_r}
 use Rattle.format.specs.declared.refusal.Refusal.{Refusal}
 use Rattle.format.specs.declared.refusal.Refusal.TheVariants.{OverBound, ShortTable, TooLong, Unsound}
 use Rattle.text.specs.Answers.{written_as, write_rows}

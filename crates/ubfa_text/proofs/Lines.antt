@@ -7,6 +7,7 @@ use native.Mathlib.Omega.{arith}
 use lib.ListN.{length, drop, replicate, length-append}
 use lib.Seq.{take-append_seam}
 use lib.Dec.{ltb}
+use lib.Ieee.Bits.{is_true}
 use borrow.Author.Tests.{le-ltb}
 use Rattle.std.specs.Prelude.{Result, Ok, Err}
 use Rattle.format.specs.Number.{number_of}
@@ -21,7 +22,6 @@ use Rattle.format.specs.declared.refusal.Refused.{Refused}
 use Rattle.format.proofs.Decoded.{accepts}
 use Rattle.format.proofs.Limits.{rows_fit}
 use Rattle.format.proofs.Sizes.{plain_size}
-use lib.Ieee.Bits.{is_true}
 use Rattle.decoder.specs.Answers.{decoded_as}
 use Rattle.decoder.specs.declared.Accepted.{Accepted}
 use Rattle.text.specs.Answers.{written_as}

@@ -7,12 +7,12 @@ use native.Mathlib.Omega.{arith}
 use lib.ListN.{length, get_or, length-reverse}
 use lib.Dec.{T, ltb, ltb→lt}
 use lib.Pow.{are_bytes, pow-add, pow_mono}
+use lib.Ieee.Fits.{and_i, and_l, and_r}
 use borrow.Author.Tests.{lt-ltb}
 use Rattle.std.specs.Int.Bits.{bit_or}
 use Rattle.std.specs.List.{fold}
 use Rattle.std.proofs.lemmas.Nat.{or_shifted, pow_pos}
 use Rattle.format.specs.Word.{Order, big, little, join_after, joined}
-use lib.Ieee.Fits.{and_i, and_l, and_r}
 
 -- bytes in the order in which they are joined
 abbrev pub ordered : Order → List ℕ → List ℕ

@@ -6,25 +6,25 @@ use mathlib.Core.Option as M
 use mathlib.Core.Option.{none, some}
 use mathlib.Core.List.{List, [], ◌∷◌, map}
 use native.Mathlib.Omega.{arith}
+use native.Mathlib.Numerals.{add-one}
 use lib.ListN.{length, get_or, drop}
 use lib.Seq.{drop-cons}
-use Rattle.std.proofs.lemmas.List.{drop_all}
-use native.Mathlib.Numerals.{add-one}
 use lib.Dec.{T, eqb}
 use lib.Pow.{are_bytes, pow-add, pow_mono}
 use lib.Dec.{ltb}
-use Rattle.std.proofs.lemmas.Bool.{false≢true}
+use lib.Ieee.Fits.{and_l, and_r}
 use borrow.Author.Tests.{eq-eqb, ne_eqb, ltb-true, ltb-false}
+use Rattle.std.proofs.lemmas.List.{drop_all}
+use Rattle.std.proofs.lemmas.Bool.{false≢true}
 use Rattle.std.specs.List.{find, list_all}
 use Rattle.std.specs.Option.{option_map}
+use Rattle.std.specs.declared.option.Option.{Option}
+use Rattle.std.specs.declared.option.Option.TheVariants.{Some, None}
 use Rattle.format.specs.Byte.{same_bytes}
 use Rattle.format.specs.Byte as B
 use Rattle.format.specs.Word as F
 use Rattle.format.specs.Word.{format, formats, format_in, join_after, joined, big}
 use Rattle.format.proofs.SameBytes.{same_bytes_lem, same_refl}
-use lib.Ieee.Fits.{and_l, and_r}
-use Rattle.std.specs.declared.option.Option.{Option}
-use Rattle.std.specs.declared.option.Option.TheVariants.{Some, None}
 use Rattle.words.specs.declared.formats.Format.{Format}
 use Rattle.words.specs.Known.{name_number, format_of, nameless, said, found}
 use Rattle.words.proofs.Joins.{joined_same, joined-below, bytes_of}

@@ -1,8 +1,8 @@
 -- `table::put_fields` meets its contract: what is yet to be stored, stored into the table as it is, is what was to be stored
 -- into the table at first.
+use native.Mathlib.Nat.{sub-zero}
 use Rattle.std.proofs.Common.{◌≡◌, ◌+◌, ◌-◌, length, refl, sym, ◌∙◌, arith}
 use Rattle.std.proofs.lemmas.List.{length_push}
-use native.Mathlib.Nat.{sub-zero}
 use Rattle.format.specs.Rows.{row_room}
 use Rattle.table.proofs.Tuple as laws
 use Rattle.table.proofs.put_fields.Goals as goal
