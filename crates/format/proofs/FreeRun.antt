@@ -11,12 +11,6 @@ use Rattle.format.specs.Lex.{lex}
 use Rattle.format.specs.Machine.{Values, Machine, Step, go, tuple, base, step, fresh, pop, close_tuple, follow, run_free_from}
 
 module _ (𝒱 : Values) where
-  -- an item that goes on: the run does
-  pub free-go : (c : ℕ) (r : List ℕ) (at k w : ℕ) (m m' : Machine 𝒱) → step 𝒱 at r m (lex c r) ≡ go k w m'
-      → run_free_from 𝒱 (c ∷ r) 0 at m ≡ run_free_from 𝒱 r k (suc at) m'
-  unfolding run_free_from follow
-  free-go c r at k w m m' e = rw e
-
   -- the bytes of an item already done are passed
   pub free-skip : (xs r : List ℕ) (at : ℕ) (m : Machine 𝒱) → run_free_from 𝒱 (xs ++ r) (length xs) at m ≡ run_free_from 𝒱 r 0 (at + length xs) m
   unfolding run_free_from

@@ -56,32 +56,25 @@ module _ (𝒱 : Values) (lim : Limits) where
     depth : length m.stack + length s ≤ lim.stack
     marks : length m.marks + length s ≤ lim.marks
 
-  bounded_idle : (at used c : ℕ) (r : List ℕ) (m : Machine 𝒱) (s : Step 𝒱) → Room used m (c ∷ r) → StepAdds 𝒱 m s → M.bounded 𝒱 lim at used s ≡ s
-  unfolding M.bounded
-  bounded_idle at used c r m s h a = grind arith
-
   -- an answer under limits, without the rows
   unfoldable pub value_only : Outcome (Result 𝒱) → Outcome 𝒱.Value
   value_only (refused n p) = refused n p
   value_only (accepted k res) = accepted k res.root
 
-  follow-free : (used c : ℕ) (r : List ℕ) (m : Machine 𝒱) (next : ℕ → ℕ → Machine 𝒱 → Outcome (Result 𝒱)) (end : 𝒱.Value → Outcome (Result 𝒱))
+  follow-free : (at used c : ℕ) (r : List ℕ) (m : Machine 𝒱) (next : ℕ → ℕ → Machine 𝒱 → Outcome (Result 𝒱)) (end : 𝒱.Value → Outcome (Result 𝒱))
       (next' : ℕ → ℕ → Machine 𝒱 → Outcome 𝒱.Value) (end' : 𝒱.Value → Outcome 𝒱.Value) → Room used m (c ∷ r)
       → ((k w : ℕ) (m' : Machine 𝒱) → Room (used + w) m' r → value_only (next k w m') ≡ next' k w m') → ((v : 𝒱.Value) → value_only (end v) ≡ end' v)
-      → (s : Step 𝒱) → StepAdds 𝒱 m s → value_only (M.follow 𝒱 s next end) ≡ M.follow 𝒱 s next' end'
-  unfolding M.follow value_only
-  follow-free used c r m next end next' end' h f g s a = grind (arith, f, g)
+      → (s : Step 𝒱) → StepAdds 𝒱 m s → value_only (M.follow 𝒱 (M.bounded 𝒱 lim at used s) next end) ≡ M.follow 𝒱 s next' end'
+  unfolding M.follow M.bounded value_only
+  follow-free at used c r m next end next' end' h f g s a = grind (arith, f, g)
 
   free-from : (s : List ℕ) (skip at used : ℕ) (m : Machine 𝒱) → Room used m s → value_only (M.run_from 𝒱 lim s skip at used m) ≡ M.run_free_from 𝒱 s skip at m
   unfolding M.run_from M.run_free_from value_only
   free-from [] skip at used m h = refl
   free-from (c ∷ r) (suc k) at used m h = free-from r k (suc at) used m (omega arith)
   free-from (c ∷ r) zero at used m h =
-      let a = adds 𝒱 (M.step 𝒱 at r m (lex c r)) (move 𝒱 at r m (lex c r) (lex-ok c r)) in
-      let next : ℕ → ℕ → Machine 𝒱 → Outcome (Result 𝒱) = λ k w m'. M.run_from 𝒱 lim r k (suc at) (used + w) m' in
-      let end : 𝒱.Value → Outcome (Result 𝒱) = λ v. accepted (suc at) (record { used = used; root = v; memory = m.memory }) in
-      ap (λ (s : Step 𝒱). value_only (M.follow 𝒱 s next end)) (bounded_idle at used c r m _ h a)
-      ∙ follow-free used c r m next end _ _ h (λ k w m' h'. free-from r k (suc at) (used + w) m' h') (λ v. refl) _ a
+      follow-free at used c r m _ _ _ _ h (λ k w m' h'. free-from r k (suc at) (used + w) m' h') (λ v. refl) _
+      (adds 𝒱 (M.step 𝒱 at r m (lex c r)) (move 𝒱 at r m (lex c r) (lex-ok c r)))
 
   -- with room for twice the bytes in rows, and for the bytes in stack and marks, the limits change nothing
   pub enough-room : (message : List ℕ) → 2 * length message ≤ lim.rows → length message ≤ lim.stack → length message ≤ lim.marks

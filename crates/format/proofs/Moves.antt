@@ -110,15 +110,11 @@ module _ (𝒱 : Values) (lim : Limits) (Inv : ℕ → List ℕ → ℕ → Mach
   AtEnd (accepted k res) = End k res
 
   module _ (at : ℕ) (r : List ℕ) (used : ℕ) (m : Machine 𝒱) where
-    next-bounded : (s : Step 𝒱) → Next at r used m s → Next at r used m (M.bounded 𝒱 lim at used s)
-    unfolding M.bounded
-    next-bounded s h = grind arith
-
     next-follow : (next : ℕ → ℕ → Machine 𝒱 → Outcome (Result 𝒱)) (end : 𝒱.Value → Outcome (Result 𝒱))
         → ((k w : ℕ) (m' : Machine 𝒱) → Inv (suc at) r (used + w) m' → AtEnd (next k w m'))
         → ((v : 𝒱.Value) → End (suc at) (record { used = used; root = v; memory = m.memory }) → AtEnd (end v))
-        → (s : Step 𝒱) → Next at r used m s → AtEnd (M.follow 𝒱 s next end)
-    unfolding M.follow
+        → (s : Step 𝒱) → Next at r used m s → AtEnd (M.follow 𝒱 (M.bounded 𝒱 lim at used s) next end)
+    unfolding M.follow M.bounded
     next-follow next end f g s h = grind (arith, f, g)
 
   module _ (pass : (at c : ℕ) (r : List ℕ) (used : ℕ) (m : Machine 𝒱) → Inv at (c ∷ r) used m → Inv (suc at) r used m)
@@ -129,7 +125,7 @@ module _ (𝒱 : Values) (lim : Limits) (Inv : ℕ → List ℕ → ℕ → Mach
     holds-from (c ∷ r) (suc k) at used m h = holds-from r k (suc at) used m (pass at c r used m h)
     holds-from (c ∷ r) zero at used m h =
         next-follow at r used m _ _ (λ k w m' h'. holds-from r k (suc at) (used + w) m' h') (λ v h'. h') _
-        (next-bounded at r used m _ (keeps at c r used m h _ (move 𝒱 at r m (lex c r) (lex-ok c r))))
+        (keeps at c r used m h _ (move 𝒱 at r m (lex c r) (lex-ok c r)))
 
     pub holds : (message : List ℕ) → Inv 0 message 0 (M.start 𝒱) → AtEnd (M.run 𝒱 lim message)
     unfolding M.run

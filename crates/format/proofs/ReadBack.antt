@@ -30,7 +30,7 @@ use Rattle.format.specs.Meaning.{term_integer, term_is_list, items_of, term_of, 
 use Rattle.format.specs.Sound.{spelled, sound_term, sound_terms}
 use Rattle.format.proofs.Limits.{Under, NoRoom, refuses, accepts, short, under-limits}
 use Rattle.format.proofs.Table.{entry}
-use Rattle.format.proofs.FreeRun.{free-go, free-skip, pop_ok, close_ok}
+use Rattle.format.proofs.FreeRun.{free-skip, pop_ok, close_ok}
 
 -- the closing quote is found where the spelled bytes end
 scan-spelled : (quote : ℕ) (escaped : Bool) (k : ℕ) (b r : List ℕ) → T (spelled quote escaped b) → scan quote escaped k (b ++ quote ∷ r) ≡ closed_at (k + length b)
@@ -111,9 +111,10 @@ read_nothing text m at = record { after = at; goes = refl; counts = refl }
 -- one item: its first byte, the bytes xs after it, and the rows that it makes
 read-item : (c : ℕ) (xs : List ℕ) (rows : ℕ) {r rest : List ℕ} {m m' : Machine term_values} {at : ℕ}
     → r ≡ xs ++ rest → step term_values at r m (lex c r) ≡ go (length xs) rows m' → Reads (c ∷ r) rest m m' at
+unfolding run_free_from follow
 read-item c xs rows {r} {rest} {m} {m'} {at} e s = record {
   after = suc at + length xs;
-  goes = free-go term_values c r at (length xs) rows m m' s ∙ rw e (free-skip term_values xs rest (suc at) m');
+  goes = rw (s, e) (free-skip term_values xs rest (suc at) m');
   counts = rw e (omega (arith, length-append xs rest));
 }
 

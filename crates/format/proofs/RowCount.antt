@@ -18,12 +18,9 @@ module _ (𝒱 : Values) (lim : Limits) where
   abbrev FewRows : ℕ → Result 𝒱 → Type 0
   FewRows consumed res = res.used ≤ 2 * consumed
 
-  few-keeps : (at c : ℕ) (r : List ℕ) (used : ℕ) (m : Machine 𝒱) → Few at (c ∷ r) used m → (s : Step 𝒱) → StepAdds 𝒱 m s → Mv.Next 𝒱 lim Few FewRows at r used m s
-  few-keeps at c r used m h s a = grind arith
-
   few : (message : List ℕ) → Mv.AtEnd 𝒱 lim Few FewRows (run 𝒱 lim message)
   unfolding M.start
-  few message = holds 𝒱 lim Few FewRows (λ at c r used m h. omega arith) (λ at c r used m h s x. few-keeps at c r used m h s (adds 𝒱 s x)) message (omega arith)
+  few message = holds 𝒱 lim Few FewRows (λ at c r used m h. omega arith) (λ at c r used m h s x. grind (arith, adds 𝒱 s x)) message (omega arith)
 
   pub few-rows : (message : List ℕ) (consumed : ℕ) (res : Result 𝒱) → run 𝒱 lim message ≡ accepted consumed res → res.used ≤ 2 * consumed
   few-rows message consumed res e = subst (Mv.AtEnd 𝒱 lim Few FewRows) e (few message)

@@ -63,13 +63,10 @@ mutual
   unfolding text_on size
 
   text-size : (t : Term) (a : List ℕ) → length (text_on t a) ≡ size t + length a
-  text-size (T.int z) a = omega (arith, decimal_size_lem z (code " " ∷ a))
-  text-size (T.atom b) a = omega (arith, length-append b (code "'" ∷ a))
-  text-size (T.string b) a = omega (arith, length-append b (code "\"" ∷ a))
-  text-size (T.binary b) a = omega (arith, natural-size (length b) (between (code "~") b a), length-append b (code "~" ∷ a))
   text-size (T.list ts) a = omega (arith, items_size_lem ts a)
   text-size (T.tuple ts) a = omega (arith, fields_size_lem ts (code "}" ∷ a))
   text-size (T.tag b t) a = omega (arith, text-size t (between (code "`") b a), length-append b (code "`" ∷ a))
+  text-size _ a = grind (arith, decimal_size_lem, natural-size, length-append)
 
   items_size_lem : (ts : Terms) (a : List ℕ) → length (items_on ts a) ≡ items_size ts + length a
   items_size_lem T.none a = omega arith
