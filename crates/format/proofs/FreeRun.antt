@@ -7,8 +7,7 @@ use native.Mathlib.Omega.{arith}
 use lib.ListN.{length, length-append}
 use lib.Seq.{take-append_seam, drop-append_seam}
 use borrow.Author.Tests.{le-ltb}
-use Rattle.format.specs.Lex.{lex}
-use Rattle.format.specs.Machine.{Values, Machine, Step, go, tuple, base, step, fresh, pop, close_tuple, follow, run_free_from}
+use Rattle.format.specs.Machine.{Values, Machine, Step, go, tuple, base, fresh, pop, close_tuple, run_free_from}
 
 module _ (𝒱 : Values) where
   -- the bytes of an item already done are passed

@@ -1,6 +1,6 @@
 -- What the limits do: they only ever refuse with 12, 13 or 14; with enough room they change nothing; what is accepted has room.
 use Prim.Native.Nat.{ℕ, zero, suc, ◌+◌, ◌*◌, ◌≤◌}
-use mathlib.Core.Path.{◌≡◌, refl, ap, ◌∙◌, subst}
+use mathlib.Core.Path.{◌≡◌, refl, subst}
 use mathlib.Core.List.{List, [], ◌∷◌}
 use native.Mathlib.Omega.{arith}
 use lib.ListN.{length}
@@ -41,14 +41,9 @@ module _ (𝒱 : Values) (lim : Limits) where
   unfolding run run_free
   under-limits message = under-from message 0 0 0 (M.start 𝒱)
 
-  accepted_of : (k : ℕ) (res : Result 𝒱) {a : Outcome (Result 𝒱)} {b : Outcome 𝒱.Value} → Under a b → a ≡ accepted k res → b ≡ accepted k res.root
-  accepted_of k res (refuses n p) e = cc
-  accepted_of k res (accepts j res') e = cc
-  accepted_of k res (short n p h) e = cc
-
   -- a message accepted under limits is accepted without, with the same value
   pub accepted-free : (message : List ℕ) (k : ℕ) (res : Result 𝒱) → run 𝒱 lim message ≡ accepted k res → run_free 𝒱 message ≡ accepted k res.root
-  accepted-free message k res e = accepted_of k res (under-limits message) e
+  accepted-free message k res e = grind (arith, under-limits message)
 
   -- room for all that the bytes s can ask
   record Room (used : ℕ) (m : Machine 𝒱) (s : List ℕ) : Type 0 where

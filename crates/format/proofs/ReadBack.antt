@@ -149,14 +149,6 @@ module _ (rest : List ℕ) (st : List Term) (marks : List ℕ) (at : ℕ) where
       read-item quote (b ++ (quote ∷ [])) 1 (sym (append_assoc b (quote ∷ []) rest))
       (rw (lexed, quoted-spelled quote item b rest t, stepped, take-append_seam, length_push, add-one))
 
-  read-atom : (b : List ℕ) → T (spelled (code "'") false b) → Reads (between (code "'") b rest) rest (state st marks) (state (T.atom b ∷ st) marks) at
-  unfolding stepping
-  read-atom = read-quoted (code "'") atom_item T.atom st (λ r. refl) (λ k r. refl)
-
-  read-string : (b : List ℕ) → T (spelled (code "\"") false b) → Reads (between (code "\"") b rest) rest (state st marks) (state (T.string b ∷ st) marks) at
-  unfolding stepping
-  read-string = read-quoted (code "\"") string_item T.string st (λ r. refl) (λ k r. refl)
-
   read-tag : (t : Term) → base marks ≤ length st → (b : List ℕ) → T (spelled (code "`") false b)
       → Reads (between (code "`") b rest) rest (state (t ∷ st) marks) (state (T.tag b t ∷ st) marks) at
   unfolding stepping
@@ -189,14 +181,6 @@ module _ (rest : List ℕ) (st : List Term) (marks : List ℕ) (at : ℕ) where
       (rw (w.begins, negative) (rw (w.worth 1, integer-ends (λ v. neg_ℤ (pos v)) (suc n) (1 + length w.others) stop rest d h)
       (ap (λ (k : ℕ). go k 1 (state (T.int (negsuc n) ∷ st) marks)) (omega arith)))))
 
-  read_blank : Reads (code " " ∷ rest) rest (state st marks) (state st marks) at
-  unfolding stepping
-  read_blank = read-item (code " ") [] 0 refl refl
-
-  read_open : Reads (code "{" ∷ rest) rest (state st marks) (state st (length st ∷ marks)) at
-  unfolding stepping
-  read_open = read-item (code "{") [] 0 refl refl
-
   -- the fields were pushed first to last
   read_close : (ts : Terms) → Reads (code "}" ∷ rest) rest (state (reverse_aux (list_of ts) st) (length st ∷ marks)) (state (T.tuple ts ∷ st) marks) at
   unfolding stepping
@@ -204,10 +188,6 @@ module _ (rest : List ℕ) (st : List Term) (marks : List ℕ) (at : ℕ) where
       let pushed = reverse_aux (list_of ts) st in
       read-item (code "}") [] (suc (length (reverse (list_of ts)))) refl
       (close_ok term_values at (state pushed (length st ∷ marks)) marks (reverse (list_of ts)) st (reverse_aux-eq (list_of ts) st) ∙ rw (reverse-reverse, terms_back))
-
-  read-hash : Reads (code "#" ∷ rest) rest (state st marks) (state (T.list T.none ∷ st) marks) at
-  unfolding stepping
-  read-hash = read-item (code "#") [] 1 refl refl
 
   read-ampersand : (t : Term) (ts : Terms) → base marks ≤ length st
       → Reads (code "&" ∷ rest) rest (state (t ∷ T.list ts ∷ st) marks) (state (T.list (t then ts) ∷ st) marks) at
@@ -221,24 +201,24 @@ no_digit = (refl, refl)
 
 read-integer : (z : ℤ) (rest : List ℕ) (st : List Term) (marks : List ℕ) (at : ℕ) → T (in_range z)
     → Reads (decimal_on z (code " " ∷ rest)) rest (state st marks) (state (T.int z ∷ st) marks) at
-unfolding decimal_on
-read-integer (pos n) rest st marks at s = read_then (read-natural rest st marks at (code " ") n no_digit.0 s) (read_blank rest _ marks _)
-read-integer (negsuc n) rest st marks at s = read_then (read-negative rest st marks at (code " ") n no_digit.0 s) (read_blank rest _ marks _)
+unfolding stepping decimal_on
+read-integer (pos n) rest st marks at s = read_then (read-natural rest st marks at (code " ") n no_digit.0 s) (read-item (code " ") [] 0 refl refl)
+read-integer (negsuc n) rest st marks at s = read_then (read-negative rest st marks at (code " ") n no_digit.0 s) (read-item (code " ") [] 0 refl refl)
 
 -- a term's text leaves the term on the stack
 mutual
-  unfolding text_on sound_term in_range list_of base
+  unfolding stepping text_on sound_term in_range list_of base
 
   read-term : (t : Term) (rest : List ℕ) (st : List Term) (marks : List ℕ) (at : ℕ) → T (sound_term t) → base marks ≤ length st
       → Reads (text_on t rest) rest (state st marks) (state (t ∷ st) marks) at
   read-term (T.int z) rest st marks at s h = read-integer z rest st marks at s
-  read-term (T.atom b) rest st marks at s h = read-atom rest st marks at b s
-  read-term (T.string b) rest st marks at s h = read-string rest st marks at b s
+  read-term (T.atom b) rest st marks at s h = read-quoted rest st marks at (code "'") atom_item T.atom st (λ r. refl) (λ k r. refl) b s
+  read-term (T.string b) rest st marks at s h = read-quoted rest st marks at (code "\"") string_item T.string st (λ r. refl) (λ k r. refl) b s
   read-term (T.binary b) rest st marks at s h =
       read_then (read-natural (b ++ code "~" ∷ rest) st marks at (code "~") (length b) no_digit.1 s) (read-bytes rest st marks _ b h)
-  read-term (T.list ts) rest st marks at s h = read_then (read-hash (items_on ts rest) st marks at) (read_items ts rest st marks _ s h)
+  read-term (T.list ts) rest st marks at s h = read_then (read-item (code "#") [] 1 refl refl) (read_items ts rest st marks _ s h)
   read-term (T.tuple ts) rest st marks at s h =
-      read_then (read_open (fields_on ts (code "}" ∷ rest)) st marks at)
+      read_then (read-item (code "{") [] 0 refl refl)
       (read_then (read_fields ts (code "}" ∷ rest) st (length st ∷ marks) _ s (omega arith)) (read_close rest st marks _ ts))
   read-term (T.tag b t) rest st marks at s h =
       read_then (read-term t (between (code "`") b rest) st marks at (and_r (spelled (code "`") false b) (sound_term t) s) h)

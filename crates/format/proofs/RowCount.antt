@@ -1,14 +1,14 @@
 -- Theorem 6, first half: rows used never exceed twice the bytes consumed. By the same walk, a refusal's number is from 3 to 17.
 use Prim.Native.Nat.{ℕ, ◌+◌, ◌*◌, ◌≤◌}
 use mathlib.Core.Path.{◌≡◌, subst}
-use mathlib.Core.List.{List, ◌∷◌}
+use mathlib.Core.List.{List}
 use native.Mathlib.Omega.{arith}
 use lib.ListN.{length}
 use Rattle.format.specs.Machine as M
 use Rattle.format.specs.Machine.{Values, Machine, Limits, Step, Result, refuse, go, finish, refused, accepted, run}
 use Rattle.format.proofs.Moves as Mv
 use Rattle.format.proofs.Moves.{MachineNumber, holds}
-use Rattle.format.proofs.Growth.{StepAdds, adds}
+use Rattle.format.proofs.Growth.{adds}
 
 module _ (𝒱 : Values) (lim : Limits) where
   -- rows made and values on the stack together are at most twice the bytes passed

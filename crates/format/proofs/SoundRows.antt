@@ -34,10 +34,6 @@ abbrev pub BelowIf : ℕ → Option ℕ → Type 0
 BelowIf n none = Unit {0}
 BelowIf n (some v) = v < n
 
-below_if_more : (n n' : ℕ) → n ≤ n' → (o : Option ℕ) → BelowIf n o → BelowIf n' o
-below_if_more n n' l none h = tt
-below_if_more n n' l (some v) h = omega arith
-
 module _ (message : List ℕ) where
   -- a row that may come after some rows
   abbrev Fits : List Row → Row → Type 0
@@ -78,9 +74,8 @@ module _ (message : List ℕ) where
       let t = grown-tuple rows h vs (All-tail (Low (length rows)) v vs g) in
       let rows' = (add_tuple rows vs).0 in
       let e = (add_tuple rows vs).1 in
-      let one : Grown rows' 1 (add rows' (field_row v e)) = grown_one rows' (field_row v e) t.grown.sound
-      (and_i (ltb v (length rows') && ltb e (length rows')) (is_tuple_kind (row_at rows' e).kind)
-      (and_i (ltb v (length rows')) (ltb e (length rows')) (lt→ltb v (length rows') (omega (arith, All-head (Low (length rows)) v vs g, t.grown.longer))) (lt→ltb e (length rows') t.grown.inside)) t.is_tuple) in
+      let first : v < length rows' = omega (arith, All-head (Low (length rows)) v vs g, t.grown.longer) in
+      let one : Grown rows' 1 (add rows' (field_row v e)) = grown_one rows' (field_row v e) t.grown.sound (search (and_i, lt→ltb, first, t.grown.inside, t.is_tuple)) in
       record {
         grown = record { sound = one.sound; longer = omega (arith, one.longer, t.grown.longer); inside = one.inside };
         is_tuple = last-kind rows' (field_row v e) tt;
@@ -114,7 +109,7 @@ module _ (message : List ℕ) where
           sound = g.sound;
           count = omega (arith, g.longer, k.count);
           stack = All-cons (Low (length (make_rows shape m.memory).0)) _ st g.inside (All-weaker (Low (length m.memory)) (Low (length (make_rows shape m.memory).0)) (λ v l. omega arith) st h);
-          registers = λ x. below_if_more (length m.memory) (length (make_rows shape m.memory).0) more (m.registers x) (k.registers x);
+          registers = λ x. grind (arith, k.registers x, more);
         }
 
     -- a span that starts after the byte at `at`

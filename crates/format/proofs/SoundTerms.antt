@@ -1,6 +1,6 @@
 -- The rows of a sound table stand for sound terms.
 use Prim.Native.Nat.{ℕ, ◌+◌, ◌^◌, ◌≤◌, ◌<◌}
-use mathlib.Core.Bool.{Bool, true, false, ◌&&◌, cond}
+use mathlib.Core.Bool.{false, ◌&&◌}
 use mathlib.Core.List.{List, [], ◌∷◌, ◌++◌}
 use mathlib.Core.Logic.{inl, inr}
 use native.Mathlib.Omega.{arith}
@@ -42,11 +42,6 @@ fields_sound : (t : Term) → T (sound_term t) → T (sound_terms (fields_of t))
 unfolding sound_term fields_of
 fields_sound (T.tuple ts) h = h
 fields_sound _ h = tt
-
--- the test of a kind, and the term of that kind
-kind-sound : (q : Bool) (b b' : Bool) (t t' : Term) → T (cond q b b') → (T b → T (sound_term t)) → (T b' → T (sound_term t')) → T (sound_term (cond q t t'))
-kind-sound true b b' t t' h f g = f h
-kind-sound false b b' t t' h f g = g h
 
 module _ (message : List ℕ) (short : length message < 2 ^ 63) where
   spelled_of : (quote a b : ℕ) → T (spelled_in message quote a b) → T (spelled quote false (span_of message a b))
