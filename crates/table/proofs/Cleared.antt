@@ -1,7 +1,7 @@
 -- A table cleared from a word on, and rows stored in a table whatever lies past them.
 use Prim.Native.Nat.{ℕ, zero, suc, ◌+◌, ◌*◌, ◌-◌, ◌≤◌}
 use mathlib.Core.Path.{◌≡◌, refl, ap, ◌∙◌}
-use mathlib.Core.List.{List, [], ◌∷◌, ◌++◌, append-nil, append_assoc}
+use mathlib.Core.List.{List, ◌∷◌, ◌++◌, append-nil, append_assoc}
 use native.Mathlib.Nat.{le_refl}
 use native.Mathlib.Omega.{arith}
 use borrow.Rule.Slice.PartMut.{mid_of, put_mid, Post-is, mid_len}
@@ -28,13 +28,10 @@ module _ (words : List ℕ) (from : ℕ) where
 words_back : (n : ℕ) (words : List ℕ) → n * row_words ≤ length words → words_of (rows_of n words) ≡ take (n * row_words) words
 unfolding words_of rows_of
 words_back zero words h = refl
-words_back (suc n) [] h = absurd (omega arith)
-words_back (suc n) (a ∷ []) h = absurd (omega arith)
-words_back (suc n) (a ∷ b ∷ []) h = absurd (omega arith)
-words_back (suc n) (a ∷ b ∷ c ∷ []) h = absurd (omega arith)
 words_back (suc n) (a ∷ b ∷ c ∷ d ∷ rest) h =
     let four : suc n * row_words ≡ suc (suc (suc (suc (n * row_words)))) = omega arith in
     rw four (ap (λ (l : List ℕ). a ∷ b ∷ c ∷ d ∷ l) (words_back n rest (omega arith)))
+words_back (suc n) _ h = absurd (omega arith)
 
 -- cleared past its rows, a table holds them and zeros
 pub cleared-rows : (words : List ℕ) (n : ℕ) → n ≤ row_room words → cleared_from (n * row_words) words ≡ rows_in words (rows_of n words)

@@ -29,13 +29,10 @@ more_rows words n r rows =
     rw e
 
 -- the top value, where there is one above the base
-top : (stack : List ℕ) (base n : ℕ) → base ≤ n → between stack base (suc n) ≡ get_or stack n 0 ∷ between stack base n
-unfolding between last_first
-top stack base n h = let e : suc n - base ≡ suc (n - base) = omega arith in rw e
-
 next-top : (stack : List ℕ) (base depth : ℕ) → base < depth → between stack base depth ≡ get_or stack (depth - 1) 0 ∷ between stack base (depth - 1)
+unfolding between last_first
 next-top stack base zero h = absurd (omega arith)
-next-top stack base (suc n) h = rw sub-one (top stack base n (omega arith))
+next-top stack base (suc n) h = let e : suc n - base ≡ suc (n - base) = omega arith in rw (sub-one, e)
 
 none_above : (stack : List ℕ) (base depth : ℕ) → depth ≤ base → between stack base depth ≡ []
 unfolding between

@@ -2,6 +2,7 @@
 use Prim.Native.Nat.{ℕ, ◌/◌, ◌%◌}
 use mathlib.Core.Path.{◌≡◌, ap, ◌∙◌}
 use mathlib.Core.List.{List}
+use native.Mathlib.Omega.{arith}
 use lib.ListN.{length}
 use borrow.Author.Tests.{eq-eqb, ne_eqb, le-leb, lt-leb}
 use Rattle.format.specs.Word as F
@@ -14,15 +15,12 @@ use Rattle.ubfa.proofs.Accepted.{accepted_of, as_accepted}
 
 reads : (f : Format) (bytes : List ℕ) (k : ℕ) (w : UbfaWord) → word_struct w ≡ word_in f bytes k → ReadsWord f bytes k w
 unfolding word_struct word_in
-reads f bytes k w e =
-    let rest = length bytes % f.width in
-    let words = length bytes / f.width in
-    record {
-      number = λ even inside. ap (λ (a : F.Word). a.number) (rw (eq-eqb rest 0 even, lt-leb words k inside) at e);
-      value = λ even inside. ap (λ (a : F.Word). a.value) (rw (eq-eqb rest 0 even, lt-leb words k inside) at e);
-      past = λ even over. ap (λ (a : F.Word). a.number) (rw (eq-eqb rest 0 even, le-leb words k over) at e);
-      uneven = λ odd. ap (λ (a : F.Word). a.number) (rw (ne_eqb rest 0 odd) at e);
-    }
+reads f bytes k w e = record {
+  number = λ even inside. grind arith;
+  value = λ even inside. grind arith;
+  past = λ even over. grind arith;
+  uneven = λ odd. grind arith;
+}
 
 pub accepted-words : AcceptedWords
 accepted-words message t u a promise zero row name bytes at f known k w answer =

@@ -15,15 +15,6 @@ use Rattle.ubfa.specs.Answers.{compared_struct}
 use Rattle.ubfa.specs.Demand3.{AcceptedCompare}
 use Rattle.ubfa.proofs.Accepted.{accepted_of, as_accepted}
 
--- 1 is said of the same texts, and only of them
-one_same : (same : Bool) (equal : ℕ) → equal ≡ cond same 1 0 → equal ≡ 1 → same ≡ true
-one_same true equal e h = refl
-one_same false equal e h = absurd (omega arith)
-
-not_same : (same : Bool) (equal : ℕ) → equal ≡ cond same 1 0 → (same ≡ true → ⊥) → equal ≡ 0
-not_same true equal e h = absurd (h refl)
-not_same false equal e h = e
-
 pub accepted_compare : AcceptedCompare
 unfolding compared_struct
 accepted_compare message_a t_a u_a a first zero_a message_b t_b u_b b second zero_b scratch room c scratch' promise =
@@ -41,8 +32,8 @@ accepted_compare message_a t_a u_a a first zero_a message_b t_b u_b b second zer
       means_a = (demand2 message_a t_a _ u_a left).term (accepted_of a) refl;
       means_b = (demand2 message_b t_b _ u_b right).term (accepted_of b) refl;
       answered = ap (λ (d : A.Compared). d.number) answer;
-      equal = λ e. same_bytes_lem (plain term_a) (plain term_b) (one_same same c.equal equal e);
+      equal = λ e. same_bytes_lem (plain term_a) (plain term_b) (grind (arith, equal));
       same = λ e. equal ∙ rw (e, same_refl) refl;
-      different = λ h. not_same same c.equal equal (λ e. h (same_bytes_lem (plain term_a) (plain term_b) e));
+      different = λ h. let other : same ≡ true → ⊥ = λ e. h (same_bytes_lem (plain term_a) (plain term_b) e) in grind (arith, equal, other);
       zero = ap (λ (d : A.Compared). d.scratch) answer;
     }

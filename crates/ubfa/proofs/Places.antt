@@ -17,13 +17,9 @@ use Rattle.decoder.specs.declared.Accepted.{Accepted}
 abbrev Placed : Result Accepted Refused → Type 0
 Placed d = (t : Tables) → (decoded_as d t).place ≤ message_bound
 
-same_place : (d : Result Accepted Refused) (t u : Tables) → (decoded_as d t).place ≡ (decoded_as d u).place
-unfolding decoded_as decode_refusal
-same_place (Ok a) t u = refl
-same_place (Err e) t u = refl
-
 pub answered-place : (d : Result Accepted Refused) (u : Tables) (message : List ℕ) (lent : Tables) (t : Tables) → decoded_as d u ≡ decode_answer message lent → (decoded_as d t).place ≤ message_bound
-answered-place d u message lent t e = rw (same_place d t u, e) (place-bound message lent)
+unfolding decoded_as decode_refusal
+answered-place d u message lent t e = grind (arith, place-bound message lent)
 
 pub consumed-fits : (d : Result Accepted Refused) (a : Accepted) → d ≡ Ok a → Placed d → Fits w32 a.consumed
 unfolding decoded_as

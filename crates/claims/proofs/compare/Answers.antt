@@ -3,7 +3,4 @@ use Rattle.demands.proofs.Demand1.{demand1_compare}
 use Rattle.claims.proofs.compare.Goals as goal
 
 pub returns : goal.returns
-returns c = record {
-  answer = c.compare.ensures;
-  compare_touches = demand1_compare _ _ _ _ _ _ _ _ _ _ _ c.compare.ensures;
-}
+returns c = let promise = c.compare.ensures in record { answer = promise; compare_touches = demand1_compare _ _ _ _ _ _ _ _ _ _ _ promise }

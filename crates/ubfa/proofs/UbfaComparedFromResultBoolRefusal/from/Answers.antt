@@ -1,19 +1,16 @@
 -- `ubfa::UbfaComparedFromResultBoolRefusal::from` gives the numbers of an answer.
 use mathlib.Core.Path.{◌≡◌, refl}
 use mathlib.Core.Bool.{Bool, true, false, cond}
+use native.Mathlib.Omega.{arith}
 use mir.Val.{bool_byte}
 use Rattle.format.specs.Answer.{compare_refusal}
 use Rattle.comparison.specs.Answers.{compared_as}
 use Rattle.ubfa.specs.Answers.{compared_struct}
 use Rattle.ubfa.proofs.UbfaComparedFromResultBoolRefusal.from.Goals as goal
 
-as_number : (b : Bool) → bool_byte b ≡ cond b 1 0
-as_number true = refl
-as_number false = refl
-
 pub returns-in-Ok : goal.returns-in-Ok
 unfolding compared_struct compared_as
-returns-in-Ok c scratch = rw (c.in-Ok.is, c.from.ensures, as_number c.in-Ok.same) refl
+returns-in-Ok c scratch = rw (c.in-Ok.is, c.from.ensures) (grind arith)
 
 pub returns-in-Err : goal.returns-in-Err
 unfolding compared_struct compared_as compare_refusal
