@@ -1,11 +1,8 @@
 -- Demand 2's last sentence, of `ubfa_decode` and `ubfa_read_word` together.
-use Prim.Native.Nat.{ℕ, ◌/◌, ◌%◌}
-use mathlib.Core.Path.{◌≡◌, ap, ◌∙◌}
+use Prim.Native.Nat.{ℕ}
+use mathlib.Core.Path.{◌≡◌, ◌∙◌}
 use mathlib.Core.List.{List}
 use native.Mathlib.Omega.{arith}
-use lib.ListN.{length}
-use borrow.Author.Tests.{eq-eqb, ne_eqb, le-leb, lt-leb}
-use Rattle.format.specs.Word as F
 use Rattle.format.specs.Word.{Format, word_in}
 use Rattle.demands.proofs.SensorWords.{block_word}
 use Rattle.ubfa.specs.Answers.{word_struct}

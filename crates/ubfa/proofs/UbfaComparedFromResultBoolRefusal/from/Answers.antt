@@ -1,8 +1,6 @@
 -- `ubfa::UbfaComparedFromResultBoolRefusal::from` gives the numbers of an answer.
-use mathlib.Core.Path.{◌≡◌, refl}
-use mathlib.Core.Bool.{Bool, true, false, cond}
+use mathlib.Core.Path.{refl}
 use native.Mathlib.Omega.{arith}
-use mir.Val.{bool_byte}
 use Rattle.format.specs.Answer.{compare_refusal}
 use Rattle.comparison.specs.Answers.{compared_as}
 use Rattle.ubfa.specs.Answers.{compared_struct}
