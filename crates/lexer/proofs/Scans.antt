@@ -1,17 +1,18 @@
 -- Quoted text looked through from `start` on: what one byte does, and a run of plain bytes, at the place i of a message.
 use Prim.Native.Nat.{ℕ, suc, ◌+◌, ◌-◌, ◌≤◌, ◌<◌}
 use Prim.Native.Char.{code}
-use mathlib.Core.Path.{◌≡◌, refl, sym, ◌∙◌}
+use mathlib.Core.Path.{◌≡◌, refl, ap, sym, ◌∙◌}
 use mathlib.Core.Bool.{Bool, true, false, ◌||◌}
 use mathlib.Core.List.{List}
 use native.Mathlib.Omega.{arith}
-use lib.ListN.{length, drop, get_or, drop_of_length-le}
+use lib.ListN.{length, take, drop, get_or, drop_of_length-le}
+use lib.Seq.{get_or-take, length-take-le, take-length}
 use lib.Dec.{eqb}
 use borrow.Author.Tests.{eq-eqb, ne_eqb}
 use Rattle.std.specs.Prelude.{Result, Ok, Err}
 use Rattle.format.specs.Lex.{scan}
 use Rattle.scan.specs.Plain.{is_mark, plain_end}
-use Rattle.scan.proofs.Runs.{no_quote, no_backslash, is-backslash, along, within, plain, stops}
+use Rattle.scan.proofs.Runs.{no_quote, no_backslash, is-backslash, along, within, stops}
 use Rattle.lexer.specs.declared.quoted.Quoted.{Quoted}
 use Rattle.lexer.specs.declared.quoted.Unclosed.{Unclosed}
 use Rattle.lexer.specs.declared.quoted.Unclosed.TheVariants.{Stray, Ended}
@@ -21,6 +22,10 @@ use Rattle.lexer.proofs.Bytes.{byte_at, next-count}
 or_true : (b : Bool) → (b || true) ≡ true
 or_true true = refl
 or_true false = refl
+
+-- the plain bytes of a message are those of its bytes up to its end
+pub whole : (quote : ℕ) (message : List ℕ) (i : ℕ) {p : ℕ} → p ≡ plain_end quote message i → p ≡ plain_end quote (take (length message) message) i
+whole quote message i e = rw (take-length message, e)
 
 module _ (quote start : ℕ) (message : List ℕ) where
   -- what is found from i on; `held` says that the byte before is a backslash that escapes the next
@@ -80,12 +85,22 @@ module _ (quote start : ℕ) (message : List ℕ) where
       passes-backslash e m n = rw (eq-eqb _ _ (is-backslash quote _ m n)) at (passes e n)
 
   -- the end p of the plain bytes at i and before `end`
-  module _ {escaped : Bool} {i : ℕ} {held : Bool} (l : Looking escaped i held) (shut : held ≡ false) {end : ℕ} (inside : end ≤ length message) (h : i ≤ end) {p : ℕ} (e : p ≡ plain_end quote message i end) where
+  module _ {escaped : Bool} {i : ℕ} {held : Bool} (l : Looking escaped i held) (shut : held ≡ false)
+      {end : ℕ} (inside : end ≤ length message) (h : i ≤ end) {p : ℕ} (e : p ≡ plain_end quote (take end message) i) where
+    size : length (take end message) ≡ end
+    size = length-take-le end message inside
+
+    mark_at : (k : ℕ) → k < end → is_mark quote (get_or (take end message) k 0) ≡ is_mark quote (get_or message k 0)
+    mark_at k b = ap (is_mark quote) (get_or-take end message k 0 b)
+
+    before_end : p ≤ end
+    before_end = omega (arith, e, size, within quote (take end message) i (omega (arith, size)))
+
     at-end : Looking escaped p false
     at-end =
-        let m = within quote message i end inside h in
-        let run = plain quote message i end inside h in
-        rw e (along quote message run (λ k. Looking escaped k false) (rw shut at l) (λ k b n passed. passes-plain passed (omega (arith, m)) refl n))
+        let step : (k : ℕ) → k < p → is_mark quote (get_or (take end message) k 0) ≡ false → Looking escaped k false → Looking escaped (k + 1) false =
+        λ k b n passed. passes-plain passed (omega (arith, before_end)) refl (sym (mark_at k (omega (arith, before_end))) ∙ n) in
+        rw e (along quote (take end message) i (λ k. Looking escaped k false) (rw shut at l) (λ k b. step k (omega (arith, e))))
 
     pub run_ends : length message ≤ p → Err (Ended false) ≡ quoted_from quote escaped start (drop start message)
     run_ends = ends at-end
@@ -95,4 +110,6 @@ module _ (quote start : ℕ) (message : List ℕ) where
       run-closes = closes at-end (omega arith) refl
 
       pub run-opens : (get_or message p 0 ≡ quote → ⊥) → Looking escaped (p + 1) true
-      run-opens = passes-backslash at-end (omega arith) refl (rw e (stops quote message i end inside h (rw e at b)))
+      run-opens =
+          let mark = rw (sym e) at (stops quote (take end message) i (omega (arith, e, size))) in
+          passes-backslash at-end (omega arith) refl (sym (mark_at p b) ∙ mark)

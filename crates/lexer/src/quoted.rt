@@ -43,7 +43,7 @@ pub fn read_quoted(
             open = false;
             i += 1;
         } else {
-            let p = scan::plain_end(message, i, message.len(), quote);
+            let p = scan::plain_end(message, i, quote);
             if message.len() <= p {
                 return Err(Unclosed::Ended(false));
             }
@@ -78,7 +78,7 @@ pub fn read_name(message: &[u8], from: Offset, quote: u8) -> Result<Quoted, Uncl
     let start = from.0;
     if start < message.len() {
         let end = near(start, message.len());
-        let p = scan::plain_end_by_blocks(message, start, end, quote);
+        let p = scan::plain_end_by_blocks(&message[..end], start, quote);
         if p < end && message[p] == quote {
             let (count, end) = (p - start, Offset(p + 1));
             return Ok(Quoted { count, end });

@@ -1,25 +1,24 @@
--- Runs of plain bytes: where one ends, and what stands before that place and at it.
-use Prim.Native.Nat.{ℕ, zero, suc, ◌+◌, ◌-◌, ◌≤◌, ◌<◌}
+-- Runs of plain bytes: how the end of one is found, by bytes and by blocks, and what stands before that place and at it.
+use Prim.Native.Nat.{ℕ, zero, suc, ◌+◌, ◌≤◌, ◌<◌}
 use Prim.Native.Char.{code}
 use mathlib.Core.Path.{◌≡◌, refl, ap, sym, ◌∙◌}
 use mathlib.Core.Bool.{Bool, true, false, ◌||◌, cond}
 use mathlib.Core.List.{List, [], ◌∷◌}
 use native.Mathlib.Omega.{arith}
-use lib.ListN.{length, drop, get_or}
-use lib.Seq.{get_or-take, get_or-drop}
-use lib.Dec.{eqb, ltb}
-use borrow.Author.Tests.{eq-eqb, ne_eqb, eqb-true, ltb-true, ltb-false}
-use Rattle.scan.specs.Plain.{is_mark, plain_count, mark_count, plain_end, Plain}
-use Rattle.format.specs.Rows.{span_of}
-use Rattle.format.proofs.Lists.{length-span}
+use lib.ListN.{length, length-drop, take, drop, get_or, drop_of_length-le}
+use lib.Seq.{get_or-drop, length-take-le, drop-cons, drop-drop}
+use lib.Dec.{eqb}
+use borrow.Author.Tests.{eq-eqb, ne_eqb, eqb-true}
+use Rattle.std.proofs.lemmas.List.{drop-take}
+use Rattle.scan.specs.Plain.{is_mark, plain_count, plain_end, mark_count}
 
 -- a mark by its two tests
 module _ (quote b : ℕ) where
-  pub quote_is_mark : b ≡ quote → is_mark quote b ≡ true
+  quote_is_mark : b ≡ quote → is_mark quote b ≡ true
   unfolding is_mark
   quote_is_mark e = rw (eq-eqb _ _ e)
 
-  pub backslash-is_mark : b ≡ 92 → is_mark quote b ≡ true
+  backslash-is_mark : b ≡ 92 → is_mark quote b ≡ true
   unfolding is_mark
   backslash-is_mark e = either (eqb b quote)
     where
@@ -42,16 +41,7 @@ module _ (quote b : ℕ) where
   unfolding is_mark
   is-backslash m n = eqb-true _ _ (rw (ne_eqb _ _ n) at m)
 
-  -- a byte counted, or not
-  pub at_most_one : {n : ℕ} → n ≡ mark_count quote b → n ≤ 1
-  unfolding mark_count
-  at_most_one e = by (is_mark quote b) e
-    where
-      by : {n : ℕ} (t : Bool) → n ≡ cond t 1 0 → n ≤ 1
-      by true e = omega arith
-      by false e = omega arith
-
-  not-counted : {n : ℕ} → n ≡ mark_count quote b → n ≡ 0 → is_mark quote b ≡ false
+  pub not-counted : {n : ℕ} → n ≡ mark_count quote b → n ≡ 0 → is_mark quote b ≡ false
   unfolding mark_count
   not-counted e z = by (is_mark quote b) e z
     where
@@ -79,101 +69,97 @@ module _ (quote : ℕ) where
           before zero h = e
           before (suc k) h = c.plain k (omega arith)
 
-  -- no other count has this
-  count-is : (l : List ℕ) (n : ℕ) → Counted l n → plain_count quote l ≡ n
+  -- the first bytes all plain: the rest counts as it does alone
+  passed : (n : ℕ) (l : List ℕ) → n ≤ plain_count quote (take n l) → plain_count quote l ≡ n + plain_count quote (drop n l)
   unfolding plain_count
-  count-is [] n c = omega (arith, c.within)
-  count-is (b ∷ r) zero c = rw (plain_count, c.stops (omega arith))
-  count-is (b ∷ r) (suc n) c =
-      let further : Counted r n = record { within = omega (arith, c.within); plain = λ k h. c.plain (suc k) (omega arith); stops = λ h. c.stops (omega arith) } in
-      rw (plain_count, c.plain 0 (omega arith)) (ap suc (count-is r n further))
+  passed zero l h = omega arith
+  passed (suc n) [] h = absurd (omega arith)
+  passed (suc n) (b ∷ r) h = by (is_mark quote b) refl h (passed n r)
+    where
+      by : (q : Bool) → is_mark quote b ≡ q → suc n ≤ plain_count quote (take (suc n) (b ∷ r))
+          → (n ≤ plain_count quote (take n r) → plain_count quote r ≡ n + plain_count quote (drop n r))
+          → plain_count quote (b ∷ r) ≡ suc n + plain_count quote (drop n r)
+      by true e h more = absurd (omega (arith, rw (plain_count, e) at h))
+      by false e h more = rw (plain_count, e) (omega (arith, more (omega (arith, rw (plain_count, e) at h))))
 
-  module _ (message : List ℕ) where
-    -- a run: no byte, one run after another, one byte more
-    pub begins : {from r : ℕ} → r ≡ from → Plain quote message from r
-    begins e = record { past = omega arith; plain = λ k a b. absurd (omega arith) }
+  -- a mark among the first bytes ends the count
+  stopped : (n : ℕ) (l : List ℕ) → plain_count quote (take n l) < n → plain_count quote (take n l) ≡ plain_count quote l
+  unfolding plain_count
+  stopped zero l h = absurd (omega arith)
+  stopped (suc n) [] h = refl
+  stopped (suc n) (b ∷ r) h = by (is_mark quote b) refl h (stopped n r)
+    where
+      by : (q : Bool) → is_mark quote b ≡ q → plain_count quote (take (suc n) (b ∷ r)) < suc n
+          → (plain_count quote (take n r) < n → plain_count quote (take n r) ≡ plain_count quote r)
+          → plain_count quote (take (suc n) (b ∷ r)) ≡ plain_count quote (b ∷ r)
+      by true e h more = rw (plain_count, e)
+      by false e h more = rw (plain_count, e) (ap suc (more (omega (arith, rw (plain_count, e) at h))))
 
-    pub further : {from i r : ℕ} → Plain quote message from i → Plain quote message i r → Plain quote message from r
-    further {from} {i} {r} p q = record { past = omega (arith, p.past, q.past); plain = λ k a b. by k a b (ltb k i) refl }
-      where
-        by : (k : ℕ) → from ≤ k → k < r → (t : Bool) → ltb k i ≡ t → is_mark quote (get_or message k 0) ≡ false
-        by k a b true e = p.plain k a (ltb-true k i e)
-        by k a b false e = q.plain k (ltb-false k i e) b
+  module _ (l : List ℕ) where
+    by_count : (i : ℕ) → plain_end quote l i ≡ i + plain_count quote (drop i l)
+    unfolding plain_end
+    by_count i = refl
 
-    pub next : {from i : ℕ} → Plain quote message from i → is_mark quote (get_or message i 0) ≡ false → Plain quote message from (i + 1)
-    next {i = i} p e = further p (record { past = omega arith; plain = λ k a b. let same : k ≡ i = omega arith in rw same e })
+    pub past : (i : ℕ) → length l ≤ i → i ≡ plain_end quote l i
+    unfolding plain_end plain_count
+    past i h = rw (drop_of_length-le l h) (omega arith)
 
-    -- what each plain byte passes on, a run passes on
-    module _ {from r : ℕ} (run : Plain quote message from r) (P : ℕ → Type 0) (start : P from)
-        (step : (k : ℕ) → k < r → is_mark quote (get_or message k 0) ≡ false → P k → P (k + 1)) where
-      up_to : (n : ℕ) → from + n ≤ r → P (from + n)
-      up_to zero h = let e : from + 0 ≡ from = omega arith in rw e start
-      up_to (suc n) h =
-          let e : from + suc n ≡ (from + n) + 1 = omega arith in
-          rw e (step (from + n) (omega arith) (run.plain (from + n) (omega arith) (omega arith)) (up_to n (omega arith)))
+    module _ (i : ℕ) (h : i < length l) where
+      at_byte : (q : Bool) → is_mark quote (get_or l i 0) ≡ q
+          → plain_count quote (drop i l) ≡ elim q [ true ↦ 0 | false ↦ suc (plain_count quote (drop (suc i) l)) ]
+      unfolding plain_count
+      at_byte true e = rw (drop-cons l i 0 h, plain_count, e)
+      at_byte false e = rw (drop-cons l i 0 h, plain_count, e)
 
-      pub along : P r
-      along = let e : from + (r - from) ≡ r = omega (arith, run.past) in rw e at (up_to (r - from) (omega (arith, run.past)))
+      pub stays : is_mark quote (get_or l i 0) ≡ true → i ≡ plain_end quote l i
+      stays e = omega (arith, by_count i, at_byte true e)
 
-    -- a count of marks that is still zero after one more byte
-    pub still-none : {from count m : ℕ} (i : ℕ) → (count ≡ 0 → Plain quote message from (from + i))
-        → m ≡ mark_count quote (get_or message (from + i) 0) → count + m ≡ 0 → Plain quote message from (from + (i + 1))
-    still-none {from} i p e z =
-        let on : from + (i + 1) ≡ (from + i) + 1 = omega arith in
-        rw on (next (p (omega arith)) (not-counted quote _ e (omega arith)))
+      pub next : is_mark quote (get_or l i 0) ≡ false → plain_end quote l (i + 1) ≡ plain_end quote l i
+      next e =
+          let on : i + 1 ≡ suc i = omega arith in
+          rw on (omega (arith, by_count i, by_count (suc i), at_byte false e))
 
-    module _ (from end : ℕ) (inside : end ≤ length message) (h : from ≤ end) where
-      abbrev bytes : List ℕ
-      bytes = span_of message from (end - from)
-
-      bytes-length : length bytes ≡ end - from
-      bytes-length = length-span message from (end - from) (omega arith)
-
-      mark_at : (k : ℕ) → k < end - from → is_mark quote (get_or bytes k 0) ≡ is_mark quote (get_or message (from + k) 0)
-      mark_at k h = ap (is_mark quote) (get_or-take (end - from) (drop from message) k 0 h ∙ get_or-drop from message k 0)
-
-      by_count : plain_end quote message from end ≡ from + plain_count quote bytes
+    -- n bytes from i on, looked at alone: all plain, they are passed; and a mark among them is the first one from i on
+    module _ (i n : ℕ) where
+      pub block : i + n ≤ length l → plain_end quote (take n (drop i l)) 0 ≡ length (take n (drop i l))
+          → plain_end quote l (i + n) ≡ plain_end quote l i
       unfolding plain_end
-      by_count = refl
+      block h e =
+          let size : length (take n (drop i l)) ≡ n = length-take-le n (drop i l) (rw (length-drop i l) (omega arith)) in
+          omega (arith, rw (drop-drop n i l) at (passed n (drop i l) (omega (arith, e, size))))
 
-      -- where a run comes to a mark or to `end`
-      pub ends : {r : ℕ} → Plain quote message from r → r ≤ end → (r < end → is_mark quote (get_or message r 0) ≡ true)
-          → r ≡ plain_end quote message from end
-      ends {r} p l s =
-          let e : from + (r - from) ≡ r = omega (arith, p.past) in
-          let c : Counted bytes (r - from) = record {
-            within = omega (arith, bytes-length, p.past);
-            plain = λ k h. mark_at k (omega arith) ∙ p.plain (from + k) (omega arith) (omega arith);
-            stops = λ h. mark_at (r - from) (omega (arith, bytes-length)) ∙ rw e (s (omega (arith, bytes-length)));
-          } in
-          rw (by_count, count-is bytes (r - from) c, e)
+      pub soon-none : i + n ≤ plain_end quote (take (i + n) l) i → plain_end quote l (i + n) ≡ plain_end quote l i
+      unfolding plain_end
+      soon-none e = omega (arith, rw (drop-drop n i l) at (passed n (drop i l) (omega (arith, rw (drop-take i n l) at e))))
 
-      pub within : plain_end quote message from end ≤ end
-      within = rw by_count (omega (arith, (counted bytes).within, bytes-length))
+      pub soon-one : plain_end quote (take (i + n) l) i < i + n → plain_end quote (take (i + n) l) i ≡ plain_end quote l i
+      unfolding plain_end
+      soon-one e =
+          let at = rw (drop-take i n l) at e in
+          rw (drop-take i n l) (omega (arith, stopped n (drop i l) (omega (arith, at))))
 
-      pub plain : Plain quote message from (plain_end quote message from end)
-      plain =
-          let c = counted bytes in
-          rw by_count (record {
-            past = omega arith;
-            plain = λ k a b.
-                let e : from + (k - from) ≡ k = omega arith in
-                rw e at (sym (mark_at (k - from) (omega (arith, c.within, bytes-length))) ∙ c.plain (k - from) (omega arith));
-          })
+    -- the bytes from `from` on and before the place found, and the byte there
+    module _ (from : ℕ) where
+      pub not-before : {p : ℕ} → p ≡ plain_end quote l from → from ≤ p
+      not-before e = omega (arith, e, by_count from)
 
-      pub not-before : {r : ℕ} → r ≡ plain_end quote message from end → from ≤ r
-      not-before e = omega (arith, plain.past)
+      pub within : from ≤ length l → plain_end quote l from ≤ length l
+      within h = omega (arith, by_count from, (counted (drop from l)).within, length-drop from l)
 
-      pub stops : plain_end quote message from end < end → is_mark quote (get_or message (plain_end quote message from end) 0) ≡ true
-      stops l =
-          let m : plain_count quote bytes < end - from = omega (arith, by_count) in
-          rw by_count (sym (mark_at (plain_count quote bytes) m) ∙ (counted bytes).stops (omega (arith, bytes-length)))
+      pub stops : plain_end quote l from < length l → is_mark quote (get_or l (plain_end quote l from) 0) ≡ true
+      stops h =
+          rw (by_count from, sym (get_or-drop from l (plain_count quote (drop from l)) 0))
+          ((counted (drop from l)).stops (omega (arith, by_count from, length-drop from l)))
 
-  module _ (message : List ℕ) (from end : ℕ) where
-    -- a plain run passed before
-    pub after_run : end ≤ length message → {i r : ℕ} → Plain quote message from i → i ≤ end
-        → r ≡ plain_end quote message i end → r ≡ plain_end quote message from end
-    after_run l {i} {r} p h e =
-        let start : from ≤ end = omega (arith, p.past) in
-        let run = further message p (rw e (plain message i end l h)) in
-        ends message from end l start run (rw e (within message i end l h)) (rw e (stops message i end l h))
+      -- what each plain byte passes on, a run passes on
+      module _ (P : ℕ → Type 0) (start : P from)
+          (step : (k : ℕ) → k < plain_end quote l from → is_mark quote (get_or l k 0) ≡ false → P k → P (k + 1)) where
+        up_to : (n : ℕ) → n ≤ plain_count quote (drop from l) → P (from + n)
+        up_to zero h = let e : from + 0 ≡ from = omega arith in rw e start
+        up_to (suc n) h =
+            let e : from + suc n ≡ (from + n) + 1 = omega arith in
+            let plain = rw (get_or-drop from l n 0) at ((counted (drop from l)).plain n (omega arith)) in
+            rw e (step (from + n) (omega (arith, by_count from)) plain (up_to n (omega arith)))
+
+        pub along : P (plain_end quote l from)
+        along = rw (by_count from) (up_to (plain_count quote (drop from l)) (omega arith))

@@ -1,5 +1,5 @@
 -- 01, 'Bytes and items': inside quoted text the mark that closes it and a backslash have a meaning; every other byte is plain.
-use Rattle.std.specs.Prelude.{ℕ, suc, ◌+◌, ◌-◌, ◌≤◌, ◌<◌, ◌≡◌, Bool, true, false, ◌||◌, cond, List, [], ◌∷◌, take, drop, get_or, eqb}
+use Rattle.std.specs.Prelude.{ℕ, suc, ◌+◌, Bool, true, false, ◌||◌, cond, List, [], ◌∷◌, drop, eqb}
 use Prim.Native.Char.{code}
 
 -- whether a byte is the quote or a backslash
@@ -11,15 +11,10 @@ unfoldable pub plain_count : ℕ → List ℕ → ℕ
 plain_count quote [] = 0
 plain_count quote (b ∷ r) = elim (is_mark quote b) [ true ↦ 0 | false ↦ suc (plain_count quote r) ]
 
--- the place of the first mark from `from` on and before `end`, or `end`
-unfoldable pub plain_end : ℕ → List ℕ → ℕ → ℕ → ℕ
-plain_end quote message from end = from + plain_count quote (take (end - from) (drop from message))
+-- the place of the first mark from `from` on, or the end; `from` itself past the end
+unfoldable pub plain_end : ℕ → List ℕ → ℕ → ℕ
+plain_end quote bytes from = from + plain_count quote (drop from bytes)
 
--- what a byte adds to a count of marks
+-- 1 for a mark, 0 for a plain byte
 unfoldable pub mark_count : ℕ → ℕ → ℕ
 mark_count quote b = cond (is_mark quote b) 1 0
-
--- the bytes from `from` up to r are plain
-pub record Plain (quote : ℕ) (message : List ℕ) (from r : ℕ) : Type 0 where
-  pub past : from ≤ r
-  pub plain : (k : ℕ) → from ≤ k → k < r → is_mark quote (get_or message k 0) ≡ false

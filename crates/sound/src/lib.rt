@@ -34,7 +34,7 @@ fn is_spelled(text: &[u8], quote: u8) -> bool
     // a turn passes a run and the byte after a backslash, so that no `for` gives its places
     let mut i = 0;
     while i < text.len() {
-        let p = scan::plain_end_by_blocks(text, i, text.len(), quote);
+        let p = scan::plain_end_by_blocks(text, i, quote);
         if text.len() <= p {
             return true;
         }

@@ -1,19 +1,10 @@
--- `scan::plain_end` meets its contract: the runs passed, one after another, end at a mark or at `end`.
-use native.Mathlib.Omega.{arith}
+-- `scan::plain_end` meets its contract: a mark among the first bytes is the first one, and with none there the look goes on past them.
+use Rattle.std.proofs.Common.{◌∙◌, arith}
 use Rattle.scan.proofs.Runs as laws
 use Rattle.scan.proofs.plain_end.Goals as goal
 
-pub returns-then-end-from-le-SHORT : goal.returns-then-end-from-le-SHORT
-returns-then-end-from-le-SHORT c =
-    let run = c.plain_until.ensures in
-    laws.ends _ _ _ _ (omega arith) (omega arith) run.0 run.1 run.2
-
 pub returns-then-i-soon : goal.returns-then-i-soon
-returns-then-i-soon c =
-    let run = c.plain_until-i.ensures in
-    laws.ends _ _ _ _ (omega arith) (omega arith) run.0 (omega arith) (λ _. run.2 c.if-i-soon.true)
+returns-then-i-soon c = c.plain_until-i.ensures ∙ laws.soon-one _ _ c.args.from 16 (omega (arith, c.plain_until-i.ensures))
 
 pub returns : goal.returns
-returns c =
-    let first = c.plain_until-i.ensures in
-    laws.after_run _ _ _ _ (omega arith) first.0 (omega (arith, first.1)) c.plain_end_by_blocks.ensures
+returns c = c.plain_end_by_blocks.ensures ∙ laws.soon-none _ _ c.args.from 16 (omega (arith, c.plain_until-i.ensures))

@@ -8,7 +8,7 @@ use Rattle.sound.proofs.Spelled as laws
 use Rattle.sound.proofs.is_spelled.Given as goal
 
 abbrev pub invariant-loop-i : goal.invariant-loop-i
-invariant-loop-i l = laws.from l.text l.quote (length l.text) l.i ≡ spelled l.quote false l.text
+invariant-loop-i l = laws.from l.text l.quote l.i ≡ spelled l.quote false l.text
 
 abbrev pub decreases-loop-i : goal.decreases-loop-i
 decreases-loop-i l = length l.text - l.i

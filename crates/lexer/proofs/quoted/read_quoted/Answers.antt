@@ -19,19 +19,25 @@ loop-i-preserved-then-open c =
     ]
 
 pub returns-then-message-p : goal.returns-then-message-p
-returns-then-message-p c = laws.run_ends _ _ _ c.loop-i.invariant c.if-open.false (omega arith) (omega arith) c.plain_end-p.ensures c.if-message-p.true
+returns-then-message-p c =
+    let run = laws.whole _ _ _ c.plain_end-p.ensures in
+    laws.run_ends _ _ _ c.loop-i.invariant c.if-open.false (omega arith) (omega arith) run c.if-message-p.true
 
 pub overflow_sub-count : goal.overflow_sub-count
-overflow_sub-count c = omega (arith, not-before _ _ _ _ (omega arith) (omega arith) c.plain_end-p.ensures)
+overflow_sub-count c = omega (arith, not-before _ _ _ c.plain_end-p.ensures)
 
 pub returns-then-message-p-2 : goal.returns-then-message-p-2
-returns-then-message-p-2 c = laws.run-closes _ _ _ c.loop-i.invariant c.if-open.false (omega arith) (omega arith) c.plain_end-p.ensures c.if-message-p.false c.if-message-p-2.true
+returns-then-message-p-2 c =
+    let run = laws.whole _ _ _ c.plain_end-p.ensures in
+    laws.run-closes _ _ _ c.loop-i.invariant c.if-open.false (omega arith) (omega arith) run c.if-message-p.false c.if-message-p-2.true
 
 pub loop-i-smaller : goal.loop-i-smaller
-loop-i-smaller c = omega (arith, not-before _ _ _ _ (omega arith) (omega arith) c.plain_end-p.ensures)
+loop-i-smaller c = omega (arith, not-before _ _ _ c.plain_end-p.ensures)
 
 pub loop-i-preserved : goal.loop-i-preserved
-loop-i-preserved c = laws.run-opens _ _ _ c.loop-i.invariant c.if-open.false (omega arith) (omega arith) c.plain_end-p.ensures c.if-message-p.false c.if-message-p-2.false
+loop-i-preserved c =
+    let run = laws.whole _ _ _ c.plain_end-p.ensures in
+    laws.run-opens _ _ _ c.loop-i.invariant c.if-open.false (omega arith) (omega arith) run c.if-message-p.false c.if-message-p-2.false
 
 pub returns : goal.returns
 returns c = laws.ends _ _ _ c.loop-i.invariant c.loop-i-test.false
