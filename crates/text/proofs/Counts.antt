@@ -16,7 +16,7 @@ use Rattle.table.specs.Words.{row_in}
 use Rattle.text.specs.declared.rows.SoundRows.{SoundRows}
 use Rattle.text.specs.declared.stack.Stack.{Stack}
 use Rattle.text.specs.Stack.{on_stack, room_on}
-use Rattle.text.specs.Rows.{rows_used, row_used, term_of}
+use Rattle.text.specs.Rows.{rows_used, row_used, term_of, root_text}
 use Rattle.text.proofs.Frames.{found}
 use Rattle.measure.specs.Lengths.{text_length, named, own_length, total, row_length}
 use Rattle.measure.proofs.Lengths.{text-after, by_names, right}
@@ -127,10 +127,10 @@ module _ {t : SoundRows} {all room : ℕ} {rest : Stack} {left : ℕ} (m : Count
               (λ a b l g. omega (arith, lower_weight a top l, lower_weight b top g)))
 
 -- all is counted from the root on
-pub begins : {t : SoundRows} {rest : Stack} {root room : ℕ} → root < t.used → t.used ≤ room_on rest → on_stack rest ≡ root ∷ []
+pub begins : (t : SoundRows) {rest : Stack} {room : ℕ} → t.used ≤ room_on rest → on_stack rest ≡ t.root.0 ∷ []
     → Counting t (to_count t (on_stack rest)) room rest room
-begins h k e = record { stack_words = k; low = rw e (omega arith, tt); count = refl }
+begins t k e = record { stack_words = k; low = rw e (omega (arith, t.among), tt); count = refl }
 
-pub whole : (t : SoundRows) {rest : List ℕ} {root : ℕ} → rest ≡ root ∷ [] → to_count t rest ≡ length (plain (term_of t root))
+pub whole : (t : SoundRows) {rest : List ℕ} → rest ≡ t.root.0 ∷ [] → to_count t rest ≡ length (root_text t)
 unfolding total plain
-whole t {root = root} e = rw e (omega (arith, text-after (term_of t root) (code "$" ∷ [])))
+whole t e = rw e (omega (arith, text-after (term_of t t.root.0) (code "$" ∷ [])))

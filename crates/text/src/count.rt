@@ -1,10 +1,9 @@
 //! The bytes of a plain text counted row by row, in any order.
 //! The message is what the rows are sound against; its bytes are not looked at.
-ghost use Rattle.std.specs.Prelude.{◌≡◌, ◌∷◌, ◌++◌, ◌+◌, ◌≤◌, ◌<◌, leb, length};
-ghost use Rattle.format.specs.Text.{plain};
+ghost use Rattle.std.specs.Prelude.{◌≡◌, ◌++◌, ◌+◌, ◌≤◌, leb, length};
 ghost use Rattle.table.specs.Words.{row_of};
 ghost use Rattle.measure.specs.Lengths.{named};
-ghost use Rattle.text.specs.Rows.{term_of};
+ghost use Rattle.text.specs.Rows.{root_text};
 ghost use Rattle.text.specs.Stack.{on_stack, room_on};
 
 use crate::rows::SoundRows;
@@ -34,16 +33,15 @@ fn push_named(stack: &mut Stack, words: RowWords)
 
 // Whether the plain text of a sound table's root has room. The stack, which has a word for each row used, holds the rows that are still to be counted. The
 // count stops as soon as it has passed the room.
-pub(crate) fn fits(table: SoundRows, root: Row, stack: &mut [u32], room: usize) -> bool
-    requires among { root.0 < table.used }
-    requires stack_words { table.used ≤ length stack.old }
-    ensures { result ≡ leb (length (plain (term_of table.entry root.0))) room }
+pub(crate) fn fits(table: SoundRows, stack: &mut [u32], room: usize) -> bool
+    requires { table.used ≤ length stack.old }
+    ensures { result ≡ leb (length (root_text table.entry)) room }
 {
     let mut rest = Stack {
         words: stack,
         depth: 0,
     };
-    rest.push(root.0);
+    rest.push(table.root.0);
     let mut left = room;
     while let Some(row) = rest.pop() {
         let words = table::load_row(table.rows, Row(row));

@@ -39,11 +39,12 @@ fn write_rows(
         message,
         rows,
         used: stack.len(),
+        root,
     };
-    if !room::fits(sound, root, stack, output.len()) {
+    if !room::fits(sound, stack, output.len()) {
         return Err(Refusal::TooLong);
     }
-    Ok(store::store_text(sound, root, stack, output))
+    Ok(store::store_text(sound, stack, output))
 }
 
 // Writes where the table is sound. The scratch, which has a word for each row used, is left as the walk leaves it.

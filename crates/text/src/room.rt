@@ -1,23 +1,20 @@
 //! Whether a plain text has room, found without writing it.
-ghost use Rattle.std.specs.Prelude.{◌≡◌, ◌≤◌, ◌<◌, leb, length};
-ghost use Rattle.format.specs.Text.{plain};
+ghost use Rattle.std.specs.Prelude.{◌≡◌, ◌≤◌, leb, length};
 ghost use Rattle.measure.specs.Lengths.{Measured};
-ghost use Rattle.text.specs.Rows.{rows_used, term_of};
+ghost use Rattle.text.specs.Rows.{rows_used, root_text};
 
 use crate::count;
 use crate::rows::SoundRows;
-use format::Row;
 use measure::length;
 
 // Whether the plain text of a sound table's root has room. The stack has a word for each row used, which holds the length of the row's text. A text
 // of 4 GiB or more is counted where there is such room.
-pub(crate) fn fits(table: SoundRows, root: Row, stack: &mut [u32], room: usize) -> bool
-    requires among { root.0 < table.used }
+pub(crate) fn fits(table: SoundRows, stack: &mut [u32], room: usize) -> bool
     requires stack_words { table.used ≤ length stack.old }
     requires measured { Measured table.message.now (rows_used table) stack.old table.used }
-    ensures { result ≡ leb (length (plain (term_of table.entry root.0))) room }
+    ensures { result ≡ leb (length (root_text table.entry)) room }
 {
-    let n = stack[root.0 as usize];
+    let n = stack[table.root.0 as usize];
     if n < length::LONGEST {
         // `$`
         return (n as usize) + 1 <= room;
@@ -25,5 +22,5 @@ pub(crate) fn fits(table: SoundRows, root: Row, stack: &mut [u32], room: usize) 
     if room <= length::LONGEST as usize {
         return false;
     }
-    count::fits(table, root, stack, room)
+    count::fits(table, stack, room)
 }

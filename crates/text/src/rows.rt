@@ -1,14 +1,18 @@
-//! The rows of a sound table.
-ghost use Rattle.std.specs.Prelude.{◌≤◌, T};
+//! The rows of a sound table, and its root.
+ghost use Rattle.std.specs.Prelude.{◌≤◌, ◌<◌, T};
 ghost use Rattle.format.specs.Rows.{rows_of, row_room};
 ghost use Rattle.format.specs.Sound.{sound_rows};
 
-// A table whose first `used` rows are sound, and the message that they are sound against.
+use format::Row;
+
+// A table whose first `used` rows are sound, the root among them, and the message that they are sound against.
 #[derive(Clone, Copy)]
 pub(crate) struct SoundRows<'a> {
     pub message: &'a [u8],
     pub rows: &'a [u32],
     pub used: usize,
+    pub root: Row,
     ghost fits: { used ≤ row_room rows.now },
+    ghost among: { root.0 < used },
     ghost sound: { T (sound_rows message.now (rows_of used rows.now)) },
 }

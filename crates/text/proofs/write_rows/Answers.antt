@@ -13,19 +13,13 @@ returns-then-not-judge c = λ scratch. rows_fail _ _ _ scratch _ (sym c.judge.en
 pub invariant_of-sound : goal.invariant_of-sound
 invariant_of-sound c =
     let sound = sym c.judge.ensures.value ∙ c.if-not-judge.false in
-    rw c.judge.auto.lengths (record { fits = count_room _ _ _ c.requires; sound = subst T (sym sound) tt })
-
-pub fits-requires-clause-among : goal.fits-requires-clause-among
-fits-requires-clause-among c = rw c.judge.auto.lengths (root_inside _ _ _ c.requires)
+    rw c.judge.auto.lengths (record { fits = count_room _ _ _ c.requires; among = root_inside _ _ _ c.requires; sound = subst T (sym sound) tt })
 
 pub returns-then-not-fits : goal.returns-then-not-fits
 returns-then-not-fits c =
     let sound = sym c.judge.ensures.value ∙ c.if-not-judge.false in
     let long = rw c.judge.auto.lengths at (sym c.fits.ensures ∙ c.if-not-fits.true) in
     λ scratch. too_long _ _ _ sound scratch _ long
-
-pub store_text-requires-clause-among : goal.store_text-requires-clause-among
-store_text-requires-clause-among c = rw c.judge.auto.lengths (root_inside _ _ _ c.requires)
 
 pub returns : goal.returns
 returns c =

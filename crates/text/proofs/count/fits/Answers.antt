@@ -11,7 +11,7 @@ push-requires c = omega arith
 
 pub loop-row-init : goal.loop-row-init
 unfolding last_first
-loop-row-init c = record { same_words = refl; counting = begins c.requires.among (omega (arith, c.push.ensures.same_room)) c.push.ensures.pushed }
+loop-row-init c = record { same_words = refl; counting = begins _ (omega (arith, c.push.ensures.same_room)) c.push.ensures.pushed }
 
 pub returns-then-left-n : goal.returns-then-left-n
 unfolding last_first

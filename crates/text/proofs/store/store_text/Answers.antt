@@ -5,7 +5,7 @@ use Rattle.text.proofs.Storing.{begins, first_fits, room-left, shorter, goes_on,
 use Rattle.text.proofs.store.store_text.Goals as goal
 
 pub loop-place-init : goal.loop-place-init
-loop-place-init c = begins c.requires
+loop-place-init c = begins _ c.requires
 
 pub put_first-first-requires : goal.put_first-first-requires
 put_first-first-requires c = first_fits c.loop-place.invariant c.in-Some.is
