@@ -5,7 +5,7 @@ use mathlib.Core.Bool.{true, false}
 use mathlib.Core.List.{List, ◌∷◌, ◌++◌}
 use native.Mathlib.Numerals.{add-one}
 use native.Mathlib.Omega.{arith}
-use lib.ListN.{length, set, length-set}
+use lib.ListN.{length, set}
 use lib.Seq.{sets, length-sets}
 use Rattle.format.specs.Rows.{Row, row_room}
 use Rattle.table.specs.Words.{last_first, row_in}
@@ -24,16 +24,14 @@ module _ (t : SoundRows) (stack₀ output₀ : List ℕ) (n₀ frames₀ end₀ 
 
   -- row n, with the words r, comes next, above so many frames
   pub record Entering (stack output : List ℕ) (n : ℕ) (r : Row) (frames end : ℕ) : Type 0 where
-    pub stack_words : t.used ≤ length stack
     pub room : end + length (coming t n (last_first stack frames)) ≤ length output
     pub read : r ≡ row_used t n
     pub above : Above t n (last_first stack frames)
     pub part : Partly output₀ end₀ text₀ output end (coming t n (last_first stack frames))
 
-  pub starts : {r : Row} → t.used ≤ length stack₀ → Above t n₀ (last_first stack₀ frames₀) → end₀ + length text₀ ≤ length output₀ → r ≡ row_in t.rows.now n₀
+  pub starts : {r : Row} → Above t n₀ (last_first stack₀ frames₀) → end₀ + length text₀ ≤ length output₀ → r ≡ row_in t.rows.now n₀
       → Entering stack₀ output₀ n₀ r frames₀ end₀
-  starts words above room read = record {
-    stack_words = words;
+  starts above room read = record {
     room = room;
     read = read ∙ found t n₀ (above-used t n₀ (last_first stack₀ frames₀) above);
     above = above;
@@ -49,8 +47,8 @@ module _ {t : SoundRows} {stack₀ output₀ : List ℕ} {n₀ frames₀ end₀ 
   inside = above-used t n below w.above
 
   -- the stack has room for the frame
-  pub frame-fits : frames < length stack
-  frame-fits = omega (arith, above-inside t n below w.above, length-last_first stack frames, w.stack_words)
+  pub frame-fits : t.used ≤ length stack → frames < length stack
+  frame-fits h = omega (arith, above-inside t n below w.above, length-last_first stack frames)
 
   -- a row that names others becomes a frame, and the first of them comes next
   module _ (k : is_leaf_kind r.kind ≡ false) where
@@ -70,16 +68,15 @@ module _ {t : SoundRows} {stack₀ output₀ : List ℕ} {n₀ frames₀ end₀ 
     pub first-room : first_named r < row_room t.rows.now
     first-room = omega (arith, first-earlier, above-room t n below w.above)
 
-    pub entered : {output' : List ℕ} {n' end' : ℕ} {r' : Row} → output' ≡ sets output end (open_bytes r)
+    pub entered : {output' : List ℕ} {n' end' : ℕ} {r' : Row} → t.used ≤ length stack → output' ≡ sets output end (open_bytes r)
         → (end' ≡ end + length (open_bytes r)) × (n' ≡ first_named r)
         → r' ≡ row_in t.rows.now n' → Entering t stack₀ output₀ n₀ frames₀ end₀ (set stack frames n) output' n' r' (frames + 1) end'
-    entered {output' = output'} {n' = n'} {end' = end'} o s read =
+    entered {output' = output'} {n' = n'} {end' = end'} h o s read =
         let kept : length output' ≡ length output = rw o (length-sets output end (open_bytes r)) in
-        let frames' : last_first (set stack frames n) (frames + 1) ≡ n ∷ below = rw add-one (pushed stack frames n frame-fits) in
+        let frames' : last_first (set stack frames n) (frames + 1) ≡ n ∷ below = rw add-one (pushed stack frames n (frame-fits h)) in
         let put : Partly output end (coming t n below) output' end' (coming t n' (n ∷ below))
         = rw s.1 (part_put output end _ (open_bytes r) _ text (o, s.0)) in
         record {
-          stack_words = rw length-set w.stack_words;
           room = rw frames' (part_room output end _ put kept w.room);
           read = read ∙ found t n' (omega (arith, s.1, first-earlier, inside));
           above = rw frames' (rw (row-frame n (row-bound t n inside), s.1) (first-earlier, (inner.frame, w.above)));

@@ -1,12 +1,12 @@
 -- The frames of the walk, and the texts of rows by the rows that they name.
-use Prim.Native.Nat.{ℕ, ◌+◌, ◌≤◌, ◌<◌}
+use Prim.Native.Nat.{ℕ, suc, ◌+◌, ◌-◌, ◌≤◌, ◌<◌}
 use Prim.Native.Char.{code}
 use mathlib.Core.Path.{◌≡◌, refl, ap, sym}
 use mathlib.Core.Bool.{Bool, true, false, ◌||◌}
 use mathlib.Core.List.{List, [], ◌∷◌, ◌++◌}
 use native.Mathlib.Omega.{arith}
 use lib.IntN.{ℤ, pos, negsuc}
-use lib.ListN.{length}
+use lib.ListN.{length, get_or}
 use lib.Dec.{T, eqb}
 use borrow.Author.Tests.{eqb-true, lt-ltb, le-ltb}
 use Rattle.format.specs.Bound.{row_bound}
@@ -20,7 +20,7 @@ use Rattle.format.proofs.Lists.{length-span}
 use Rattle.format.proofs.Sizes.{natural_onto, between_onto, text_onto}
 use Rattle.format.proofs.TableRows as R
 use Rattle.format.proofs.TableRows.{length-rows, judged}
-use Rattle.table.specs.Words.{row_in}
+use Rattle.table.specs.Words.{row_in, last_first}
 use Rattle.table.proofs.Rows.{row_of}
 use Rattle.leaves.proofs.Leaves.{length-after}
 use Rattle.measure.proofs.Lengths.{list-again}
@@ -47,6 +47,11 @@ module _ (i : ℕ) (h : i < row_bound) where
   pub begun-frame : frame_row (i + row_bound) ≡ i
   unfolding frame_row
   begun-frame = omega arith
+
+-- the top frame of a stack, and those below it
+pub top-first : (stack : List ℕ) (depth : ℕ) → 0 < depth → last_first stack depth ≡ get_or stack (depth - 1) 0 ∷ last_first stack (depth - 1)
+unfolding last_first
+top-first stack depth h = let e : depth ≡ suc (depth - 1) = omega arith in ap (last_first stack) e
 
 module _ (t : SoundRows) where
   -- a row and the frames below it are fewer than the rows used

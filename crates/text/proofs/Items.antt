@@ -5,44 +5,40 @@ use mathlib.Core.Path.{◌≡◌, refl, ap, sym, ◌∙◌}
 use mathlib.Core.Bool.{true}
 use mathlib.Core.List.{List, [], ◌∷◌, ◌++◌}
 use native.Mathlib.Omega.{arith}
-use lib.ListN.{length, set, get_or}
+use lib.ListN.{length, set}
 use lib.Seq.{sets, length-sets}
 use Rattle.std.specs.Prelude.{Some, None}
 use Rattle.format.specs.Bound.{row_bound}
 use Rattle.format.specs.Text.{text_on}
 use Rattle.format.specs.Rows.{Row, row_room, cons_kind}
 use Rattle.table.specs.Words.{last_first, row_in}
+use Rattle.table.proofs.Rows.{length-last_first}
 use Rattle.leaves.specs.Leaves.{is_leaf_kind, leaf_bytes, Inside}
 use Rattle.text.specs.declared.rows.SoundRows.{SoundRows}
 use Rattle.text.specs.Rows.{row_used, term_of}
 use Rattle.text.specs.Walk.{frame_row, frame_on, pending, coming, of_cell, Falling, Partly}
 use Rattle.text.proofs.Partly.{part_none, part_then, part_room, put_fits, part_put}
-use Rattle.text.proofs.Frames.{Leaf, above-used, above-room, falling_below, row-frame, begun-frame, found, leaf_read}
+use Rattle.text.proofs.Frames.{Leaf, above-inside, above-used, above-room, falling_below, row-frame, begun-frame, found, leaf_read}
 use Rattle.text.proofs.Frames.{cell-names, item-frame, begun-item_frame}
 use Rattle.text.proofs.Turned.{Turned, turned-done, turned-above}
 
--- the frame at `top` of the stack is that of a list cell with this item
-pub record Cell (t : SoundRows) (stack output : List ℕ) (top at item : ℕ) : Type 0 where
-  pub top_in_bounds : top < length stack
-  pub falling : Falling t (get_or stack top 0 ∷ last_first stack top)
-  pub room : at + length (pending t (get_or stack top 0 ∷ last_first stack top)) ≤ length output
-  pub cell : ((row_in t.rows.now (frame_row (get_or stack top 0))).kind ≡ cons_kind) × ((row_in t.rows.now (frame_row (get_or stack top 0))).first ≡ item)
+-- the frame e, which was on top of these frames, is that of a list cell with this item
+pub record Cell (t : SoundRows) (e : ℕ) (stack : List ℕ) (depth : ℕ) (output : List ℕ) (at item : ℕ) : Type 0 where
+  pub falling : Falling t (e ∷ last_first stack depth)
+  pub room : at + length (pending t (e ∷ last_first stack depth)) ≤ length output
+  pub cell : ((row_in t.rows.now (frame_row e)).kind ≡ cons_kind) × ((row_in t.rows.now (frame_row e)).first ≡ item)
 
 -- as it is required
-pub cell_of : {t : SoundRows} {stack output : List ℕ} {top at item : ℕ} → record {
-  top_in_bounds : top < length stack;
-  falling : Falling t (get_or stack top 0 ∷ last_first stack top);
-  room : at + length (pending t (get_or stack top 0 ∷ last_first stack top)) ≤ length output;
-  cell : ((row_in t.rows.now (frame_row (get_or stack top 0))).kind ≡ cons_kind) × ((row_in t.rows.now (frame_row (get_or stack top 0))).first ≡ item);
-} → Cell t stack output top at item
-cell_of r = record { top_in_bounds = r.top_in_bounds; falling = r.falling; room = r.room; cell = r.cell }
+pub cell_of : {t : SoundRows} {e : ℕ} {stack : List ℕ} {depth : ℕ} {output : List ℕ} {at item : ℕ} → record {
+  falling : Falling t (e ∷ last_first stack depth);
+  room : at + length (pending t (e ∷ last_first stack depth)) ≤ length output;
+  cell : ((row_in t.rows.now (frame_row e)).kind ≡ cons_kind) × ((row_in t.rows.now (frame_row e)).first ≡ item);
+} → Cell t e stack depth output at item
+cell_of r = record { falling = r.falling; room = r.room; cell = r.cell }
 
-module _ {t : SoundRows} {stack output : List ℕ} {top at item : ℕ} (w : Cell t stack output top at item) where
-  abbrev e : ℕ
-  e = get_or stack top 0
-
+module _ {t : SoundRows} {e : ℕ} {stack : List ℕ} {depth : ℕ} {output : List ℕ} {at item : ℕ} (w : Cell t e stack depth output at item) where
   abbrev below : List ℕ
-  below = last_first stack top
+  below = last_first stack depth
 
   abbrev more : List ℕ
   more = pending t below
@@ -68,6 +64,10 @@ module _ {t : SoundRows} {stack output : List ℕ} {top at item : ℕ} (w : Cell
   item-inside : item < t.used
   item-inside = omega (arith, earlier, inside)
 
+  -- the stack has room for the frame again
+  pub frame-fits : t.used ≤ length stack → depth < length stack
+  frame-fits h = omega (arith, above-inside t i below w.falling.1, length-last_first stack depth)
+
   pub item_room : item < row_room t.rows.now
   item_room = omega (arith, earlier, above-room t i below w.falling.1)
 
@@ -81,8 +81,8 @@ module _ {t : SoundRows} {stack output : List ℕ} {top at item : ℕ} (w : Cell
     begun-fits = omega (arith, put_fits output at text₀ (code "&" ∷ []) _ last w.room)
 
     pub begun-done : {output' : List ℕ} {at' : ℕ} → output' ≡ set output at (code "&") → at' ≡ at + 1
-        → Turned t top output at text₀ (record { next = None; depth = top; at = at' }) stack output'
-    begun-done o a = turned-done t top stack (falling_below t i below w.falling.1) (part_put output at text₀ (code "&" ∷ []) _ last (o, a))
+        → Turned t output at text₀ stack output' None depth at'
+    begun-done o a = turned-done t stack depth (falling_below t i below w.falling.1) (part_put output at text₀ (code "&" ∷ []) _ last (o, a))
 
   -- its item is still to come, and has the words f
   module _ (h : e < row_bound) {f : Row} (g : f ≡ row_in t.rows.now item) where
@@ -107,16 +107,16 @@ module _ {t : SoundRows} {stack output : List ℕ} {top at item : ℕ} (w : Cell
         and-fits = omega (arith, part_room output at text₀ put (rw o (length-sets output at (leaf_bytes t.message.now f))) w.room)
 
         pub item-done : {output'' : List ℕ} {at'' : ℕ} → output'' ≡ set output' at' (code "&") → at'' ≡ at' + 1
-            → Turned t top output at text₀ (record { next = None; depth = top; at = at'' }) stack output''
+            → Turned t output at text₀ stack output'' None depth at''
         item-done o' a' =
             let and = part_put output' at' (code "&" ∷ more) (code "&" ∷ []) more refl (o', a') in
-            turned-done t top stack (falling_below t i below w.falling.1) (part_then output at text₀ put and)
+            turned-done t stack depth (falling_below t i below w.falling.1) (part_then output at text₀ put and)
 
     -- another row comes next, and the item is begun
-    pub into : Turned t top output at text₀ (record { next = Some (record { 0 = item }); depth = top + 1; at = at }) (set stack top (e + row_bound)) output
+    pub into : t.used ≤ length stack → Turned t output at text₀ (set stack depth (e + row_bound)) output (Some (record { 0 = item })) (depth + 1) at
     unfolding pending
-    into =
+    into words =
         let begun : frame_row (e + row_bound) ≡ i = begun-frame e h ∙ sym (row-frame e h) in
         let frame : frame_on t (e + row_bound) more ≡ code "&" ∷ more = begun-item_frame t i inside more (e + row_bound) begun is-cell (omega arith) in
         let ahead : coming t item ((e + row_bound) ∷ below) ≡ text₀ = ap (text_on (term_of t item)) frame ∙ sym text in
-        turned-above t top stack w.top_in_bounds (rw begun (earlier, (of_cell (rw (begun, is-cell)), w.falling.1))) (rw ahead (part_none output at text₀))
+        turned-above t stack depth (frame-fits words) (rw begun (earlier, (of_cell (rw (begun, is-cell)), w.falling.1))) (rw ahead (part_none output at text₀))

@@ -6,7 +6,7 @@ pub mod Counts
 pub mod Partly
 -- the frames of the walk, and the texts of rows by the rows that they name
 pub mod Frames
--- what a turn of a frame leaves
+-- how the walk has gone on
 pub mod Turned
 -- from a row down to its first leaf
 pub mod Entering

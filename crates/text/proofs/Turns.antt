@@ -1,5 +1,5 @@
 -- A turn of the frame at the top of the stack, by the kind of its row.
-use Prim.Native.Nat.{ℕ, ◌+◌, ◌≤◌, ◌<◌}
+use Prim.Native.Nat.{ℕ, ◌+◌, ◌-◌, ◌≤◌, ◌<◌}
 use Prim.Native.Char.{code}
 use mathlib.Core.Path.{◌≡◌, refl, sym, ◌∙◌}
 use mathlib.Core.List.{List, [], ◌∷◌, ◌++◌}
@@ -11,45 +11,62 @@ use Rattle.std.specs.Prelude.{None}
 use Rattle.format.specs.Text.{between}
 use Rattle.format.specs.Rows.{Row, row_room, span_of, is_tuple_kind, cons_kind, field_kind, tag_kind}
 use Rattle.table.specs.Words.{last_first, row_in}
+use Rattle.table.proofs.Rows.{length-last_first}
 use Rattle.text.specs.declared.rows.SoundRows.{SoundRows}
-use Rattle.text.specs.declared.walk.Place.{Place}
 use Rattle.text.specs.Rows.{row_used}
 use Rattle.text.specs.Walk.{frame_row, pending, coming_fields, Frame, of_cell, of_field, of_tag, Above, Falling}
 use Rattle.text.proofs.Partly.{put_fits, part_put}
-use Rattle.text.proofs.Frames.{above-used, above-room, above_lower, falling_below, found, field_names, field_rest, field_frame, tag-inside, tag-frame}
+use Rattle.text.proofs.Frames.{top-first, above-inside, above-used, above-room, above_lower, falling_below, found, field_names, field_rest, field_frame, tag-inside, tag-frame}
 use Rattle.text.proofs.Turned.{Turned, turned-done}
 
--- the frame at `top` of the stack has its turn
-pub record Turn (t : SoundRows) (stack output : List ℕ) (top at : ℕ) : Type 0 where
-  pub falling : Falling t (get_or stack top 0 ∷ last_first stack top)
-  pub room : at + length (pending t (get_or stack top 0 ∷ last_first stack top)) ≤ length output
+-- the frame on top of the stack, of so many, has its turn
+pub record Turn (t : SoundRows) (stack output : List ℕ) (depth at : ℕ) : Type 0 where
+  pub some : 0 < depth
+  pub falling : Falling t (last_first stack depth)
+  pub room : at + length (pending t (last_first stack depth)) ≤ length output
 
 -- as it is required
-pub turn_of : {t : SoundRows} {stack output : List ℕ} {top at : ℕ} → record {
-  top_in_bounds : top < length stack;
-  falling : Falling t (get_or stack top 0 ∷ last_first stack top);
-  room : at + length (pending t (get_or stack top 0 ∷ last_first stack top)) ≤ length output;
-} → Turn t stack output top at
-turn_of r = record { falling = r.falling; room = r.room }
+pub turn_of : {t : SoundRows} {stack output : List ℕ} {depth at : ℕ} → record {
+  some : 0 < depth;
+  falling : Falling t (last_first stack depth);
+  room : at + length (pending t (last_first stack depth)) ≤ length output;
+} → Turn t stack output depth at
+turn_of r = record { some = r.some; falling = r.falling; room = r.room }
 
-module _ {t : SoundRows} {stack output : List ℕ} {top at : ℕ} (w : Turn t stack output top at) where
+module _ {t : SoundRows} {stack output : List ℕ} {depth at : ℕ} (w : Turn t stack output depth at) where
+  abbrev top : ℕ
+  top = depth - 1
+
   abbrev e : ℕ
   e = get_or stack top 0
 
   abbrev below : List ℕ
   below = last_first stack top
 
+  -- the frames, with that on top apart
+  pub stacked : last_first stack depth ≡ e ∷ below
+  stacked = top-first stack depth w.some
+
+  pub falls : Falling t (e ∷ below)
+  falls = rw stacked at w.falling
+
+  pub room-first : at + length (pending t (e ∷ below)) ≤ length output
+  room-first = rw stacked at w.room
+
+  pub top_in_bounds : t.used ≤ length stack → top < length stack
+  top_in_bounds h = omega (arith, above-inside t (frame_row e) below falls.1, length-last_first stack top)
+
   abbrev text₀ : List ℕ
-  text₀ = pending t (e ∷ below)
+  text₀ = pending t (last_first stack depth)
 
   abbrev i : ℕ
   i = frame_row e
 
   inside : i < t.used
-  inside = above-used t i below w.falling.1
+  inside = above-used t i below falls.1
 
   pub frame-room : i < row_room t.rows.now
-  frame-room = above-room t i below w.falling.1
+  frame-room = above-room t i below falls.1
 
   -- its row has the words r
   module _ {r : Row} (read : r ≡ row_in t.rows.now (frame_row (get_or stack top 0))) where
@@ -64,9 +81,9 @@ module _ {t : SoundRows} {stack output : List ℕ} {top at : ℕ} (w : Turn t st
       earlier : r.second < i
       earlier = rw is (field_names t i inside is_field).1
 
-      fields_text : text₀ ≡ coming_fields t r.second below
+      pub fields_text : text₀ ≡ coming_fields t r.second below
       unfolding pending
-      fields_text = rw is (field_frame t i inside (pending t below) e refl is_field)
+      fields_text = rw (stacked, is) (field_frame t i inside (pending t below) e refl is_field)
 
       pub rest-tuple : T (is_tuple_kind (row_in t.rows.now r.second).kind)
       rest-tuple =
@@ -74,14 +91,10 @@ module _ {t : SoundRows} {stack output : List ℕ} {top at : ℕ} (w : Turn t st
           rw (found t r.second (omega (arith, earlier, inside))) tuple
 
       pub rest-above : Above t r.second below
-      rest-above = above_lower t r.second i below earlier w.falling.1
+      rest-above = above_lower t r.second i below earlier falls.1
 
       pub rest-room : at + length (coming_fields t r.second below) ≤ length output
       rest-room = rw fields_text at w.room
-
-      pub fields_turned : (p : Place) (stack' output' : List ℕ)
-          → Turned t top output at (coming_fields t r.second below) p stack' output' → Turned t top output at text₀ p stack' output'
-      fields_turned p stack' output' u = rw fields_text u
 
     -- a tag's: the tag comes next
     module _ (k : r.kind ≡ tag_kind) where
@@ -93,14 +106,14 @@ module _ {t : SoundRows} {stack output : List ℕ} {top at : ℕ} (w : Turn t st
 
       tag-text : text₀ ≡ bytes ++ pending t below
       unfolding pending
-      tag-text = rw is (tag-frame t i inside (pending t below) e refl is-tag)
+      tag-text = rw (stacked, is) (tag-frame t i inside (pending t below) e refl is-tag)
 
       pub tag_fits : (r.first + r.second ≤ length t.message.now) × (at + length bytes ≤ length output)
       tag_fits = (rw is (tag-inside t i inside is-tag), put_fits output at text₀ bytes _ tag-text w.room)
 
       pub tag-turned : {output' : List ℕ} {at' : ℕ} → output' ≡ sets output at bytes → at' ≡ at + length bytes
-          → Turned t top output at text₀ (record { next = None; depth = top; at = at' }) stack output'
-      tag-turned o a = turned-done t top stack (falling_below t i below w.falling.1) (part_put output at text₀ bytes _ tag-text (o, a))
+          → Turned t output at text₀ stack output' None top at'
+      tag-turned o a = turned-done t stack top (falling_below t i below falls.1) (part_put output at text₀ bytes _ tag-text (o, a))
 
     -- a list cell's
     pub cell : r.kind ≡ cons_kind → ((row_in t.rows.now i).kind ≡ cons_kind) × ((row_in t.rows.now i).first ≡ r.first)
@@ -108,7 +121,7 @@ module _ {t : SoundRows} {stack output : List ℕ} {top at : ℕ} (w : Turn t st
 
     -- there is no other
     pub no_other : (r.kind ≡ field_kind → ⊥) → (r.kind ≡ cons_kind → ⊥) → (r.kind ≡ tag_kind → ⊥) → ⊥
-    no_other f c g = by w.falling.0
+    no_other f c g = by falls.0
       where
         by : Frame t e → ⊥
         by (of_cell q) = c (rw is q)

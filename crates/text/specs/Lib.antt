@@ -4,5 +4,7 @@ pub mod Answers
 pub mod Rows
 -- the walk over the rows, from leaf to leaf
 pub mod Walk
+-- the walk on its way
+pub mod Way
 -- a stack of words
 pub mod Stack

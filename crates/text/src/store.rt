@@ -3,8 +3,7 @@ ghost use Rattle.std.specs.Prelude.{◌≡◌, ◌++◌, ◌≤◌, length, drop
 ghost use Rattle.text.specs.Rows.{root_text};
 
 use crate::rows::SoundRows;
-use crate::walk;
-use crate::walk::Place;
+use crate::walk::Walk;
 use format::byte;
 
 // Stores the plain text of a sound table's root, and answers how many bytes it has. The stack has a word for each row used.
@@ -14,15 +13,15 @@ pub(crate) fn store_text(table: SoundRows, stack: &mut [u32], output: &mut [u8])
     ensures output_after { output.new ≡ root_text table.entry ++ drop result output.old }
     ensures value { result ≡ length (root_text table.entry) }
 {
-    let mut place = Place {
-        next: Some(table.root),
+    let mut walk = Walk {
+        table,
+        stack,
+        output,
         depth: 0,
         at: 0,
     };
-    while let Some(row) = place.next {
-        let first = walk::put_first(table, stack, place.depth, row, output, place.at);
-        place = walk::put_rest(table, stack, output, first);
-    }
-    output[place.at] = byte::DOLLAR;
-    place.at + 1
+    walk.put_all();
+    let at = walk.at;
+    output[at] = byte::DOLLAR;
+    at + 1
 }

@@ -1,9 +1,8 @@
 //! The walk over the rows: the text of a leaf is stored where the leaf is met, and what is still to come of the rows around it lies on the stack, in frames.
-ghost use Rattle.std.specs.Prelude.{◌≡◌, ◌∷◌, ◌+◌, ◌≤◌, ◌<◌, T, MatchOption, length, get_or};
+ghost use Rattle.std.specs.Prelude.{◌≡◌, ◌+◌, ◌≤◌, length};
 ghost use Rattle.std.proofs.lemmas.List.Edits.{sets};
-ghost use Rattle.format.specs.Rows.{is_tuple_kind, cons_kind};
-ghost use Rattle.table.specs.Words.{row_of, last_first, row_in};
-ghost use Rattle.text.specs.Walk.{open_bytes, first_named, frame_row, pending, coming, coming_fields, Above, Falling, coming_next, ReadyNext, Partly};
+ghost use Rattle.table.specs.Words.{row_of};
+ghost use Rattle.text.specs.Walk.{open_bytes, first_named};
 
 use crate::rows::SoundRows;
 use format::kind::Kind;
@@ -14,12 +13,15 @@ use table::RowWords;
 // Added to the number of a list cell, in its frame, once its item is begun. Rows used are below the bound.
 const ITEM_BEGUN: u32 = bound::ROWS as u32;
 
-// Where the text goes on, how many frames lie on the stack, and the row that comes next above them, if one does.
-#[derive(Clone, Copy, Debug, PartialEq, Eq)]
-pub(crate) struct Place {
-    pub next: Option<Row>,
+// The walk on its way: the sound table, a stack with a word for each row used and how many frames lie on it, the output and where the text goes on.
+#[derive(Drop)]
+pub(crate) struct Walk<'a> {
+    pub table: SoundRows<'a>,
+    pub stack: &'a mut [u32],
+    pub output: &'a mut [u8],
     pub depth: usize,
     pub at: usize,
+    ghost stack_words: { table.used ≤ length stack.now },
 }
 
 // The row whose text comes first in a row's own, and where the text goes on.
@@ -53,180 +55,144 @@ fn begin(output: &mut [u8], at: usize, words: RowWords) -> Begun
     }
 }
 
-// Stores the first leaf in row `row`, and what stands before it. The rows around the leaf become frames.
-// `stack` and `depth`, `output` and `at` stay parameters, here and below: a `Stack`, as the count has, would put two clauses more on each function, that
-// the same words are lent and as many of them.
-pub(crate) fn put_first(
-    table: SoundRows,
-    stack: &mut [u32],
-    depth: usize,
-    row: Row,
-    output: &mut [u8],
-    at: usize,
-) -> Place
-    requires stack_words { table.used ≤ length stack.old }
-    requires above { Above table row.0 (last_first stack.old depth) }
-    requires room { at + length (coming table row.0 (last_first stack.old depth)) ≤ length output.old }
-    ensures next { result.next ≡ None }
-    ensures ready_next { ReadyNext table.entry result.next (last_first stack.new result.depth) }
-    ensures partly { Partly output.old at (coming table.entry row.0 (last_first stack.old depth))
-        output.new result.at (coming_next table.entry result.next (last_first stack.new result.depth)) }
-    ensures rises { at < result.at }
-{
-    let mut n = row;
-    let mut words = table::read_row(table.rows, n);
-    let mut frames = depth;
-    let mut end = at;
-    while !leaf::is_leaf(words.kind) {
-        stack[frames] = n.0;
-        frames += 1;
-        let begun = begin(output, end, words);
-        n = begun.row;
-        end = begun.at;
-        words = table::read_row(table.rows, n);
-    }
-    Place {
-        next: None,
-        depth: frames,
-        at: leaf::put(table.message, output, end, words),
-    }
-}
+impl<'a> Walk<'a> {
+    ghost use Rattle.std.specs.Prelude.{◌∷◌, ◌<◌, T, None};
+    ghost use Rattle.format.specs.Rows.{is_tuple_kind, cons_kind};
+    ghost use Rattle.table.specs.Words.{row_in};
+    ghost use Rattle.text.specs.Rows.{root_text};
+    ghost use Rattle.text.specs.Walk.{frame_row, pending, coming, coming_fields, Above, Falling};
+    ghost use Rattle.text.specs.Way.{frames, HasRoom, GoneOn};
 
-// Stores the fields of a tuple from row `rest` on, and `}`; or those before one that is no leaf, which comes next. The frame at `top` is the tuple's.
-fn put_fields(
-    table: SoundRows,
-    stack: &mut [u32],
-    top: usize,
-    rest: Row,
-    output: &mut [u8],
-    at: usize,
-) -> Place
-    requires top_in_bounds { (top < length stack.old) × T (is_tuple_kind (row_in table.rows.now rest.0).kind) }
-    requires above { Above table rest.0 (last_first stack.old top) }
-    requires room { at + length (coming_fields table rest.0 (last_first stack.old top)) ≤ length output.old }
-    ensures depth { MatchOption result.next (result.depth ≡ top) (λ row. result.depth ≡ top + 1) }
-    ensures ready_next { ReadyNext table.entry result.next (last_first stack.new result.depth) }
-    ensures partly { Partly output.old at (coming_fields table.entry rest.0 (last_first stack.old top))
-        output.new result.at (coming_next table.entry result.next (last_first stack.new result.depth)) }
-{
-    let mut n = rest;
-    let mut words = table::read_row(table.rows, n);
-    let mut end = at;
-    // by number, since one kind is asked for: a `while let` on a kind is no plainer
-    while words.kind == Kind::Field as u32 {
-        let first = Row(words.first);
-        let field = table::read_row(table.rows, first);
-        if !leaf::is_leaf(field.kind) {
-            stack[top] = n.0;
-            return Place {
-                next: Some(first),
-                depth: top + 1,
-                at: end,
-            };
+    // Stores the first leaf in row `row`, and what stands before it. The rows around the leaf become frames.
+    fn put_first(&mut self, row: Row)
+        requires above { Above self.old.table row.0 (frames self.old) }
+        requires room { HasRoom self.old (coming self.old.table row.0 (frames self.old)) }
+        ensures rises { self.old.at < self.new.at }
+        ensures gone_on { GoneOn self.old (coming self.old.table row.0 (frames self.old)) self.new None }
+    {
+        let table = self.table;
+        let mut n = row;
+        let mut words = table::read_row(table.rows, n);
+        while !leaf::is_leaf(words.kind) {
+            self.stack[self.depth] = n.0;
+            self.depth += 1;
+            let begun = begin(self.output, self.at, words);
+            self.at = begun.at;
+            n = begun.row;
+            words = table::read_row(table.rows, n);
         }
-        end = leaf::put(table.message, output, end, field);
-        n = Row(words.second);
-        words = table::read_row(table.rows, n);
+        self.at = leaf::put(table.message, self.output, self.at, words);
     }
-    Place {
-        next: None,
-        depth: top,
-        at: leaf::put_byte(output, end, byte::RIGHT_BRACE),
-    }
-}
 
-// Stores the item of a list cell and `&`; or nothing yet where the item is no leaf, and comes next. The frame at `top` is the cell's.
-fn put_item(
-    table: SoundRows,
-    stack: &mut [u32],
-    top: usize,
-    item: Row,
-    output: &mut [u8],
-    at: usize,
-) -> Place
-    requires top_in_bounds { top < length stack.old }
-    requires falling { Falling table (get_or stack.old top 0 ∷ last_first stack.old top) }
-    requires room { at + length (pending table (get_or stack.old top 0 ∷ last_first stack.old top)) ≤ length output.old }
-    requires cell { ((row_in table.rows.now (frame_row (get_or stack.old top 0))).kind ≡ cons_kind)
-        × ((row_in table.rows.now (frame_row (get_or stack.old top 0))).first ≡ item.0) }
-    ensures depth { MatchOption result.next (result.depth ≡ top) (λ row. result.depth ≡ top + 1) }
-    ensures ready_next { ReadyNext table.entry result.next (last_first stack.new result.depth) }
-    ensures partly { Partly output.old at (pending table.entry (get_or stack.old top 0 ∷ last_first stack.old top))
-        output.new result.at (coming_next table.entry result.next (last_first stack.new result.depth)) }
-{
-    let frame = stack[top];
-    if ITEM_BEGUN <= frame {
-        return Place {
-            next: None,
-            depth: top,
-            at: leaf::put_byte(output, at, byte::AMPERSAND),
-        };
+    // Stores the fields of a tuple from row `rest` on, and `}`; or those before one that is no leaf, which comes next, above the tuple's frame.
+    fn put_fields(&mut self, rest: Row) -> Option<Row>
+        requires tuple { T (is_tuple_kind (row_in self.old.table.rows.now rest.0).kind) }
+        requires above { Above self.old.table rest.0 (frames self.old) }
+        requires room { HasRoom self.old (coming_fields self.old.table rest.0 (frames self.old)) }
+        ensures done { result ≡ None → self.new.depth ≡ self.old.depth }
+        ensures gone_on { GoneOn self.old (coming_fields self.old.table rest.0 (frames self.old)) self.new result }
+    {
+        let table = self.table;
+        let mut n = rest;
+        let mut words = table::read_row(table.rows, n);
+        // by number, since one kind is asked for: a `while let` on a kind is no plainer
+        while words.kind == Kind::Field as u32 {
+            let first = Row(words.first);
+            let field = table::read_row(table.rows, first);
+            if !leaf::is_leaf(field.kind) {
+                self.stack[self.depth] = n.0;
+                self.depth += 1;
+                return Some(first);
+            }
+            self.at = leaf::put(table.message, self.output, self.at, field);
+            n = Row(words.second);
+            words = table::read_row(table.rows, n);
+        }
+        self.at = leaf::put_byte(self.output, self.at, byte::RIGHT_BRACE);
+        None
     }
-    let words = table::read_row(table.rows, item);
-    if leaf::is_leaf(words.kind) {
-        let end = leaf::put(table.message, output, at, words);
-        return Place {
-            next: None,
-            depth: top,
-            at: leaf::put_byte(output, end, byte::AMPERSAND),
-        };
-    }
-    stack[top] = frame + ITEM_BEGUN;
-    Place {
-        next: Some(item),
-        depth: top + 1,
-        at,
-    }
-}
 
-// Stores what is still to come of the frame at `top`, up to a row that is no leaf.
-fn put_frame(table: SoundRows, stack: &mut [u32], top: usize, output: &mut [u8], at: usize) -> Place
-    requires top_in_bounds { top < length stack.old }
-    requires falling { Falling table (get_or stack.old top 0 ∷ last_first stack.old top) }
-    requires room { at + length (pending table (get_or stack.old top 0 ∷ last_first stack.old top)) ≤ length output.old }
-    ensures depth { MatchOption result.next (result.depth ≡ top) (λ row. result.depth ≡ top + 1) }
-    ensures ready_next { ReadyNext table.entry result.next (last_first stack.new result.depth) }
-    ensures partly { Partly output.old at (pending table.entry (get_or stack.old top 0 ∷ last_first stack.old top))
-        output.new result.at (coming_next table.entry result.next (last_first stack.new result.depth)) }
-{
-    let frame = stack[top];
-    let words = table::read_row(table.rows, Row(frame % ITEM_BEGUN));
-    match Kind::try_from(words.kind) {
-        Ok(Kind::Field) => put_fields(table, stack, top, Row(words.second), output, at),
-        Ok(Kind::Tag) => Place {
-            next: None,
-            depth: top,
-            at: leaf::put_quoted(
-                table::span(table.message, words),
-                output,
-                at,
-                byte::TAG_QUOTE,
-            ),
-        },
-        Ok(Kind::Cons) => put_item(table, stack, top, Row(words.first), output, at),
-        // a row of no other kind has a frame
-        _ => unreachable!(),
+    // Stores the item of a list cell, of which this was the frame, and `&`; or nothing yet where the item is no leaf, and comes next, above the cell's frame.
+    fn put_item(&mut self, frame: u32, item: Row) -> Option<Row>
+        requires falling { Falling self.old.table (frame ∷ frames self.old) }
+        requires room { HasRoom self.old (pending self.old.table (frame ∷ frames self.old)) }
+        requires cell { ((row_in self.old.table.rows.now (frame_row frame)).kind ≡ cons_kind)
+            × ((row_in self.old.table.rows.now (frame_row frame)).first ≡ item.0) }
+        ensures done { result ≡ None → self.new.depth ≡ self.old.depth }
+        ensures gone_on { GoneOn self.old (pending self.old.table (frame ∷ frames self.old)) self.new result }
+    {
+        let table = self.table;
+        if ITEM_BEGUN <= frame {
+            self.at = leaf::put_byte(self.output, self.at, byte::AMPERSAND);
+            return None;
+        }
+        let words = table::read_row(table.rows, item);
+        if leaf::is_leaf(words.kind) {
+            let end = leaf::put(table.message, self.output, self.at, words);
+            self.at = leaf::put_byte(self.output, end, byte::AMPERSAND);
+            return None;
+        }
+        self.stack[self.depth] = frame + ITEM_BEGUN;
+        self.depth += 1;
+        Some(item)
     }
-}
 
-// Stores what is still to come of the frames, up to a row that is no leaf.
-pub(crate) fn put_rest(
-    table: SoundRows,
-    stack: &mut [u32],
-    output: &mut [u8],
-    first: Place,
-) -> Place
-    requires stack_words { table.used ≤ length stack.old }
-    requires ready_next { ReadyNext table first.next (last_first stack.old first.depth) }
-    requires room { first.at + length (coming_next table first.next (last_first stack.old first.depth)) ≤ length output.old }
-    ensures whole { result.next ≡ None → result.depth ≡ 0 }
-    ensures ready_next { ReadyNext table.entry result.next (last_first stack.new result.depth) }
-    ensures partly { Partly output.old first.at (coming_next table.entry first.next (last_first stack.old first.depth))
-        output.new result.at (coming_next table.entry result.next (last_first stack.new result.depth)) }
-{
-    let mut place = first;
-    while place.next.is_none() && 0 < place.depth {
-        place = put_frame(table, stack, place.depth - 1, output, place.at);
+    // Takes the frame on top, and stores what is still to come of it, up to a row that is no leaf, which comes next.
+    fn put_frame(&mut self) -> Option<Row>
+        requires some { 0 < self.old.depth }
+        requires falling { Falling self.old.table (frames self.old) }
+        requires room { HasRoom self.old (pending self.old.table (frames self.old)) }
+        ensures done { result ≡ None → self.new.depth + 1 ≡ self.old.depth }
+        ensures gone_on { GoneOn self.old (pending self.old.table (frames self.old)) self.new result }
+    {
+        let table = self.table;
+        self.depth -= 1;
+        let frame = self.stack[self.depth];
+        let words = table::read_row(table.rows, Row(frame % ITEM_BEGUN));
+        match Kind::try_from(words.kind) {
+            Ok(Kind::Field) => self.put_fields(Row(words.second)),
+            Ok(Kind::Tag) => {
+                self.at = leaf::put_quoted(
+                    table::span(table.message, words),
+                    self.output,
+                    self.at,
+                    byte::TAG_QUOTE,
+                );
+                None
+            }
+            Ok(Kind::Cons) => self.put_item(frame, Row(words.first)),
+            // a row of no other kind has a frame
+            _ => unreachable!(),
+        }
     }
-    place
+
+    // Stores what is still to come of the frames, up to a row that is no leaf, which comes next.
+    fn put_rest(&mut self) -> Option<Row>
+        requires falling { Falling self.old.table (frames self.old) }
+        requires room { HasRoom self.old (pending self.old.table (frames self.old)) }
+        ensures whole { result ≡ None → self.new.depth ≡ 0 }
+        ensures gone_on { GoneOn self.old (pending self.old.table (frames self.old)) self.new result }
+    {
+        while 0 < self.depth {
+            let next = self.put_frame();
+            if next.is_some() {
+                return next;
+            }
+        }
+        None
+    }
+
+    // Stores the text of the root, but for `$`, where no frame lies on the stack yet.
+    pub(crate) fn put_all(&mut self)
+        requires begins { self.old.depth ≡ 0 }
+        requires room { HasRoom self.old (root_text self.old.table) }
+        ensures whole { self.new.depth ≡ 0 }
+        ensures gone_on { GoneOn self.old (root_text self.old.table) self.new None }
+    {
+        let mut next = Some(self.table.root);
+        while let Some(row) = next {
+            self.put_first(row);
+            next = self.put_rest();
+        }
+    }
 }

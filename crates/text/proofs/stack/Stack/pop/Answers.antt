@@ -1,7 +1,7 @@
 -- `text::stack::Stack::pop` meets its contract.
 use native.Mathlib.Omega.{arith}
 use Rattle.table.specs.Words.{last_first}
-use Rattle.text.proofs.Passes.{top-first}
+use Rattle.text.proofs.Frames.{top-first}
 use Rattle.text.proofs.stack.Stack.pop.Goals as goal
 
 pub returns-then-self-eq0-clause-popped : goal.returns-then-self-eq0-clause-popped

@@ -1,0 +1,72 @@
+-- `text::walk::Walk::put_first` meets its contract.
+use mathlib.Core.Path.{refl, sym, ◌∙◌}
+use native.Mathlib.Omega.{arith}
+use Rattle.text.specs.Walk.{coming_next, ReadyNext}
+use Rattle.text.specs.Way.{frames}
+use Rattle.text.proofs.Frames.{above-room}
+use Rattle.text.proofs.Entering.{starts, frame-fits, begin_fits, first-earlier, first-room, entered, leaf-fits, leaf-stored}
+use Rattle.text.proofs.walk.Walk.put_first.Goals as goal
+
+pub read_row-words-requires : goal.read_row-words-requires
+read_row-words-requires c = above-room _ _ (frames c.args.self.now) c.requires.above
+
+pub loop-n-init : goal.loop-n-init
+loop-n-init c = record {
+  same_table = refl;
+  same_stack = refl;
+  same_output = refl;
+  entering = starts _ _ _ _ _ _ c.requires.above c.requires.room c.read_row-words.ensures;
+}
+
+pub offset_bounds-self-self : goal.offset_bounds-self-self
+offset_bounds-self-self c =
+    let inv = c.loop-n.invariant in
+    omega (arith, frame-fits inv.entering (rw inv.same_table at c.loop-n.self.stack_words))
+
+pub bounds-self-self : goal.bounds-self-self
+bounds-self-self c =
+    let inv = c.loop-n.invariant in
+    frame-fits inv.entering (rw inv.same_table at c.loop-n.self.stack_words)
+
+pub overflow_add-self : goal.overflow_add-self
+overflow_add-self c =
+    let inv = c.loop-n.invariant in
+    omega (arith, frame-fits inv.entering (rw inv.same_table at c.loop-n.self.stack_words))
+
+pub begin-begun-requires : goal.begin-begun-requires
+begin-begun-requires c = begin_fits c.loop-n.invariant.entering (sym c.is_leaf.ensures ∙ c.loop-n-test.true)
+
+pub read_row-words-requires-in-loop-n : goal.read_row-words-requires-in-loop-n
+read_row-words-requires-in-loop-n c =
+    omega (arith, c.begin-begun.ensures.at_value.1, first-room c.loop-n.invariant.entering (sym c.is_leaf.ensures ∙ c.loop-n-test.true))
+
+pub loop-n-smaller : goal.loop-n-smaller
+loop-n-smaller c = omega (arith, c.begin-begun.ensures.at_value.1, first-earlier c.loop-n.invariant.entering (sym c.is_leaf.ensures ∙ c.loop-n-test.true))
+
+pub loop-n-preserved : goal.loop-n-preserved
+loop-n-preserved c =
+    let inv = c.loop-n.invariant in
+    let begun = c.begin-begun.ensures in
+    let words = rw inv.same_table at c.loop-n.self.stack_words in
+    record {
+      same_table = inv.same_table;
+      same_stack = inv.same_stack;
+      same_output = inv.same_output;
+      entering = entered inv.entering (sym c.is_leaf.ensures ∙ c.loop-n-test.true) words begun.output_after begun.at_value c.read_row-words-in-loop-n.ensures;
+    }
+
+pub put-self-requires : goal.put-self-requires
+put-self-requires c =
+    let all = leaf-fits c.loop-n.invariant.entering (sym c.is_leaf.ensures ∙ c.loop-n-test.false) in
+    record { inside = all.0; room = all.1 }
+
+pub returns : goal.returns
+unfolding ReadyNext coming_next
+returns c =
+    let inv = c.loop-n.invariant in
+    let put = c.put-self.ensures in
+    let all = leaf-stored inv.entering (sym c.is_leaf.ensures ∙ c.loop-n-test.false) put.output_after put.value in
+    record {
+      rises = all.1.1;
+      gone_on = record { same_table = inv.same_table; same_stack = inv.same_stack; same_output = inv.same_output; ready = all.0; part = all.1.0 };
+    }
