@@ -19,7 +19,7 @@ no_row (Some row) e = cc
 -- not yet
 pub gone_none : (w : Walk) → Falling w.table (frames w) → GoneOn w (pending w.table (frames w)) w None
 unfolding ReadyNext coming_next
-gone_none w f = record { same_table = refl; same_stack = refl; same_output = refl; ready = f; part = part_none _ _ _ }
+gone_none w f = record { same = record { table = refl; stack = refl; output = refl }; ready = f; part = part_none _ _ _ }
 
 module _ {w : Walk} {text : List ℕ} {w' : Walk} {next : Option Row} (g : GoneOn w text w' next) where
   pub same-length : length w'.output.now ≡ length w.output.now
@@ -28,16 +28,14 @@ module _ {w : Walk} {text : List ℕ} {w' : Walk} {next : Option Row} (g : GoneO
 
   -- it can go on from there
   pub ready_there : ReadyNext w'.table next (frames w')
-  ready_there = rw g.same_table g.ready
+  ready_there = rw g.same.table g.ready
 
   pub room-there : HasRoom w text → HasRoom w' (coming_next w'.table next (frames w'))
-  room-there h = rw g.same_table (part_room w.output.now w.at text g.part same-length h)
+  room-there h = rw g.same.table (part_room w.output.now w.at text g.part same-length h)
 
   pub gone-then : {w'' : Walk} {next'' : Option Row} → GoneOn w' (coming_next w'.table next (frames w')) w'' next'' → GoneOn w text w'' next''
   gone-then f = record {
-    same_table = f.same_table ∙ g.same_table;
-    same_stack = f.same_stack ∙ g.same_stack;
-    same_output = f.same_output ∙ g.same_output;
-    ready = rw g.same_table at f.ready;
-    part = part_then w.output.now w.at text g.part (rw g.same_table at f.part);
+    same = record { table = f.same.table ∙ g.same.table; stack = f.same.stack ∙ g.same.stack; output = f.same.output ∙ g.same.output };
+    ready = rw g.same.table at f.ready;
+    part = part_then w.output.now w.at text g.part (rw g.same.table at f.part);
   }

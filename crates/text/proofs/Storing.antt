@@ -21,7 +21,7 @@ use Rattle.text.proofs.Passes.{same-length, ready_there, room-there, gone-then}
 -- no frame lies on the stack at first, and the root comes next
 pub begins : (w : Walk) → w.depth ≡ 0 → GoneOn w (root_text w.table) w (Some w.table.root)
 unfolding plain pending last_first coming_next ReadyNext
-begins w e = record { same_table = refl; same_stack = refl; same_output = refl; ready = rw e w.table.among; part = rw e (part_none _ _ _) }
+begins w e = record { same = record { table = refl; stack = refl; output = refl }; ready = rw e w.table.among; part = rw e (part_none _ _ _) }
 
 module _ {w : Walk} {text : List ℕ} {w' : Walk} {next : Option Row} (g : GoneOn w text w' next) (room : HasRoom w text) where
   -- a row comes next

@@ -11,9 +11,7 @@ read_row-words-requires c = above-room _ _ (frames c.args.self.now) c.requires.a
 
 pub loop-words-init : goal.loop-words-init
 loop-words-init c = record {
-  same_table = refl;
-  same_stack = refl;
-  same_output = refl;
+  same = record { table = refl; stack = refl; output = refl };
   same_depth = refl;
   fielding = starts _ _ _ _ _ _ c.requires.above c.requires.tuple c.requires.room c.read_row-words.ensures;
 }
@@ -24,27 +22,25 @@ read_row-field-requires c = (names-room c.loop-words.invariant.fielding c.loop-w
 pub offset_bounds-self-self : goal.offset_bounds-self-self
 offset_bounds-self-self c =
     let inv = c.loop-words.invariant in
-    omega (arith, frame-fits inv.fielding (rw inv.same_table at c.loop-words.self.stack_words), inv.same_depth)
+    omega (arith, frame-fits inv.fielding (rw inv.same.table at c.loop-words.self.stack_words), inv.same_depth)
 
 pub bounds-self-self : goal.bounds-self-self
 bounds-self-self c =
     let inv = c.loop-words.invariant in
-    rw inv.same_depth (frame-fits inv.fielding (rw inv.same_table at c.loop-words.self.stack_words))
+    rw inv.same_depth (frame-fits inv.fielding (rw inv.same.table at c.loop-words.self.stack_words))
 
 pub overflow_add-self : goal.overflow_add-self
 overflow_add-self c =
     let inv = c.loop-words.invariant in
-    omega (arith, frame-fits inv.fielding (rw inv.same_table at c.loop-words.self.stack_words), inv.same_depth)
+    omega (arith, frame-fits inv.fielding (rw inv.same.table at c.loop-words.self.stack_words), inv.same_depth)
 
 pub returns-then-not-is_leaf-clause-gone_on : goal.returns-then-not-is_leaf-clause-gone_on
 returns-then-not-is_leaf-clause-gone_on c =
     let inv = c.loop-words.invariant in
-    let fits = frame-fits inv.fielding (rw inv.same_table at c.loop-words.self.stack_words) in
+    let fits = frame-fits inv.fielding (rw inv.same.table at c.loop-words.self.stack_words) in
     let above = into inv.fielding c.loop-words-test.true c.read_row-field.ensures fits in
     record {
-      same_table = inv.same_table;
-      same_stack = inv.same_stack;
-      same_output = inv.same_output;
+      same = inv.same;
       ready = rw inv.same_depth above.ready;
       part = rw inv.same_depth above.part;
     }
@@ -67,9 +63,7 @@ loop-words-preserved c =
     let leaf = sym c.is_leaf.ensures ∙ c.if-not-is_leaf.false in
     let put = c.put-self.ensures in
     record {
-      same_table = inv.same_table;
-      same_stack = inv.same_stack;
-      same_output = inv.same_output;
+      same = inv.same;
       same_depth = inv.same_depth;
       fielding = next inv.fielding c.loop-words-test.true c.read_row-field.ensures leaf put.output_after put.value c.read_row-words-in-loop-words.ensures;
     }
@@ -83,9 +77,7 @@ returns-clause-gone_on c =
     let put = c.put_byte-self.ensures in
     let done = closed inv.fielding c.loop-words-test.false put.output_after put.value in
     record {
-      same_table = inv.same_table;
-      same_stack = inv.same_stack;
-      same_output = inv.same_output;
+      same = inv.same;
       ready = rw inv.same_depth done.ready;
       part = rw inv.same_depth done.part;
     }

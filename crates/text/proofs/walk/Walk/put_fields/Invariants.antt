@@ -1,6 +1,7 @@
 -- `text::walk::Walk::put_fields` meets its contract.
 use mathlib.Core.Path.{◌≡◌}
 use Rattle.table.specs.Words.{row_of}
+use Rattle.text.specs.Way.{Same}
 use Rattle.text.proofs.Fields.{Fielding}
 use Rattle.text.proofs.walk.Walk.put_fields.Given as goal
 
@@ -8,9 +9,7 @@ abbrev pub invariant-loop-words : goal.invariant-loop-words
 invariant-loop-words l =
     let w = l.initial.self in
     record {
-      same_table : l.self.table ≡ w.table;
-      same_stack : l.self.stack.ghost_name ≡ w.stack.ghost_name;
-      same_output : l.self.output.ghost_name ≡ w.output.ghost_name;
+      same : Same w l.self;
       same_depth : l.self.depth ≡ w.depth;
       fielding : Fielding w.table w.stack.now w.output.now w.depth l.initial.n.0 w.at l.self.stack.now l.self.output.now l.n.0 (row_of l.words) l.self.at;
     }

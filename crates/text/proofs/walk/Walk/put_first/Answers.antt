@@ -12,26 +12,24 @@ read_row-words-requires c = above-room _ _ (frames c.args.self.now) c.requires.a
 
 pub loop-n-init : goal.loop-n-init
 loop-n-init c = record {
-  same_table = refl;
-  same_stack = refl;
-  same_output = refl;
+  same = record { table = refl; stack = refl; output = refl };
   entering = starts _ _ _ _ _ _ c.requires.above c.requires.room c.read_row-words.ensures;
 }
 
 pub offset_bounds-self-self : goal.offset_bounds-self-self
 offset_bounds-self-self c =
     let inv = c.loop-n.invariant in
-    omega (arith, frame-fits inv.entering (rw inv.same_table at c.loop-n.self.stack_words))
+    omega (arith, frame-fits inv.entering (rw inv.same.table at c.loop-n.self.stack_words))
 
 pub bounds-self-self : goal.bounds-self-self
 bounds-self-self c =
     let inv = c.loop-n.invariant in
-    frame-fits inv.entering (rw inv.same_table at c.loop-n.self.stack_words)
+    frame-fits inv.entering (rw inv.same.table at c.loop-n.self.stack_words)
 
 pub overflow_add-self : goal.overflow_add-self
 overflow_add-self c =
     let inv = c.loop-n.invariant in
-    omega (arith, frame-fits inv.entering (rw inv.same_table at c.loop-n.self.stack_words))
+    omega (arith, frame-fits inv.entering (rw inv.same.table at c.loop-n.self.stack_words))
 
 pub begin-begun-requires : goal.begin-begun-requires
 begin-begun-requires c = begin_fits c.loop-n.invariant.entering (sym c.is_leaf.ensures ∙ c.loop-n-test.true)
@@ -47,11 +45,9 @@ pub loop-n-preserved : goal.loop-n-preserved
 loop-n-preserved c =
     let inv = c.loop-n.invariant in
     let begun = c.begin-begun.ensures in
-    let words = rw inv.same_table at c.loop-n.self.stack_words in
+    let words = rw inv.same.table at c.loop-n.self.stack_words in
     record {
-      same_table = inv.same_table;
-      same_stack = inv.same_stack;
-      same_output = inv.same_output;
+      same = inv.same;
       entering = entered inv.entering (sym c.is_leaf.ensures ∙ c.loop-n-test.true) words begun.output_after begun.at_value c.read_row-words-in-loop-n.ensures;
     }
 
@@ -68,5 +64,5 @@ returns c =
     let all = leaf-stored inv.entering (sym c.is_leaf.ensures ∙ c.loop-n-test.false) put.output_after put.value in
     record {
       rises = all.1.1;
-      gone_on = record { same_table = inv.same_table; same_stack = inv.same_stack; same_output = inv.same_output; ready = all.0; part = all.1.0 };
+      gone_on = record { same = inv.same; ready = all.0; part = all.1.0 };
     }

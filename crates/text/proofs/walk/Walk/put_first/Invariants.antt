@@ -1,6 +1,6 @@
 -- `text::walk::Walk::put_first` meets its contract.
-use mathlib.Core.Path.{◌≡◌}
 use Rattle.table.specs.Words.{row_of}
+use Rattle.text.specs.Way.{Same}
 use Rattle.text.proofs.Entering.{Entering}
 use Rattle.text.proofs.walk.Walk.put_first.Given as goal
 
@@ -8,9 +8,7 @@ abbrev pub invariant-loop-n : goal.invariant-loop-n
 invariant-loop-n l =
     let w = l.initial.self in
     record {
-      same_table : l.self.table ≡ w.table;
-      same_stack : l.self.stack.ghost_name ≡ w.stack.ghost_name;
-      same_output : l.self.output.ghost_name ≡ w.output.ghost_name;
+      same : Same w l.self;
       entering : Entering w.table w.stack.now w.output.now l.initial.n.0 w.depth w.at l.self.stack.now l.self.output.now l.n.0 (row_of l.words) l.self.depth l.self.at;
     }
 

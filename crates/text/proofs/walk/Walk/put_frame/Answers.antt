@@ -61,9 +61,7 @@ returns-in-Ok-Field-clause-gone_on c =
     let field = sym c.in-Ok-Field.ensures ∙ ap kind_number c.in-Ok-Field.field-0-is in
     let on = c.put_fields.ensures.gone_on in
     record {
-      same_table = on.same_table;
-      same_stack = on.same_stack;
-      same_output = on.same_output;
+      same = on.same;
       ready = on.ready;
       part = rw (fields_text (turn_of c.requires) c.read_row-words.ensures field) on.part;
     }
@@ -74,16 +72,14 @@ returns-in-Ok-Tag-clause-gone_on c =
     let tag = sym c.in-Ok-Tag.ensures ∙ ap kind_number c.in-Ok-Tag.field-0-is in
     let put = c.put_quoted-self.ensures in
     let done = tag-turned (turn_of c.requires) c.read_row-words.ensures tag (rw c.span.ensures at put.output_after) (rw c.span.ensures at put.value) in
-    record { same_table = refl; same_stack = refl; same_output = refl; ready = done.ready; part = done.part }
+    record { same = record { table = refl; stack = refl; output = refl }; ready = done.ready; part = done.part }
 
 pub returns-in-Ok-Cons-clause-gone_on : goal.returns-in-Ok-Cons-clause-gone_on
 unfolding frame_row
 returns-in-Ok-Cons-clause-gone_on c =
     let on = c.put_item.ensures.gone_on in
     record {
-      same_table = on.same_table;
-      same_stack = on.same_stack;
-      same_output = on.same_output;
+      same = on.same;
       ready = on.ready;
       part = rw (stacked (turn_of c.requires)) on.part;
     }

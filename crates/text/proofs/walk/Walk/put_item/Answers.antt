@@ -11,7 +11,7 @@ pub returns-then-frame-ge-ITEM_BEGUN-clause-gone_on : goal.returns-then-frame-ge
 returns-then-frame-ge-ITEM_BEGUN-clause-gone_on c =
     let put = c.put_byte-self.ensures in
     let done = begun-done (cell_of c.requires) c.if-frame-ge-ITEM_BEGUN.true put.output_after put.value in
-    record { same_table = refl; same_stack = refl; same_output = refl; ready = done.ready; part = done.part }
+    record { same = record { table = refl; stack = refl; output = refl }; ready = done.ready; part = done.part }
 
 pub read_row-words-requires : goal.read_row-words-requires
 read_row-words-requires c = item_room (cell_of c.requires)
@@ -33,7 +33,7 @@ returns-then-is_leaf-clause-gone_on c =
     let put = c.put-end.ensures in
     let and = c.put_byte-self-then-is_leaf.ensures in
     let done = item-done (cell_of c.requires) c.if-frame-ge-ITEM_BEGUN.false c.read_row-words.ensures leaf put.output_after put.value and.output_after and.value in
-    record { same_table = refl; same_stack = refl; same_output = refl; ready = done.ready; part = done.part }
+    record { same = record { table = refl; stack = refl; output = refl }; ready = done.ready; part = done.part }
 
 pub offset_bounds-self-self : goal.offset_bounds-self-self
 offset_bounds-self-self c = omega (arith, frame-fits (cell_of c.requires) c.args.self.now.stack_words)
@@ -47,4 +47,4 @@ overflow_add-self-2 c = omega (arith, frame-fits (cell_of c.requires) c.args.sel
 pub returns-clause-gone_on : goal.returns-clause-gone_on
 returns-clause-gone_on c =
     let above = into (cell_of c.requires) c.if-frame-ge-ITEM_BEGUN.false c.read_row-words.ensures c.args.self.now.stack_words in
-    record { same_table = refl; same_stack = refl; same_output = refl; ready = above.ready; part = above.part }
+    record { same = record { table = refl; stack = refl; output = refl }; ready = above.ready; part = above.part }
