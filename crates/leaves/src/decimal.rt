@@ -2,7 +2,9 @@
 ghost use Rattle.std.specs.Prelude.{◌≡◌, [], ◌+◌, ◌≤◌, ◌<◌, length, set};
 ghost use Rattle.std.proofs.lemmas.List.Edits.{sets};
 ghost use Rattle.format.specs.Text.{natural_on};
+ghost use Rattle.leaves.specs.Outputs.{HasRoom, Wrote};
 
+use crate::output::Output;
 use format::byte;
 
 // How many digits a number has. They are counted two at a time.
@@ -36,7 +38,7 @@ fn put_digit(output: &mut [u8], at: usize, digit: u64) -> usize
 // Stores a number's digits from `at` on, and answers the place after them: first the digits of its tenth, then its last digit.
 // The two functions are alike and call each other, so that the compiler makes one call for two digits. They are at most 20 deep.
 #[cycle(put_natural_put_tenth)]
-pub fn put_natural(output: &mut [u8], at: usize, n: u64) -> usize
+fn put_natural(output: &mut [u8], at: usize, n: u64) -> usize
     requires { at + length (natural_on n []) ≤ length output.old }
     ensures output_after { output.new ≡ sets output.old at (natural_on n []) }
     ensures value { result ≡ at + length (natural_on n []) }
@@ -59,4 +61,12 @@ fn put_tenth(output: &mut [u8], at: usize, n: u64) -> usize
     }
     let last = put_natural(output, at, n / 10);
     put_digit(output, last, n % 10)
+}
+
+// Stores a number's digits. The functions above keep the place beside the slice, so that it stays in a register from call to call.
+pub fn put_decimal(output: &mut Output, n: u64)
+    requires { HasRoom output.old (natural_on n []) }
+    ensures { Wrote output.old (natural_on n []) output.new }
+{
+    output.at = put_natural(output.bytes, output.at, n);
 }

@@ -3,4 +3,5 @@
 
 pub mod decimal;
 pub mod leaf;
+pub mod output;
 pub mod span;

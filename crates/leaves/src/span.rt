@@ -3,6 +3,9 @@
 ghost use Rattle.std.specs.Prelude.{◌≡◌, ◌+◌, ◌≤◌, length};
 ghost use Rattle.std.proofs.lemmas.List.Edits.{sets};
 ghost use Rattle.format.specs.Rows.{span_of};
+ghost use Rattle.leaves.specs.Outputs.{HasRoom, Wrote};
+
+use crate::output::Output;
 
 // Bytes of a block.
 const BLOCK: usize = 8;
@@ -52,16 +55,15 @@ fn put_by_one(bytes: &[u8], output: &mut [u8], at: usize)
     }
 }
 
-// Stores a span from `at` on, and answers the place after it.
-pub fn put_span(bytes: &[u8], output: &mut [u8], at: usize) -> usize
-    requires { at + length bytes.now ≤ length output.old }
-    ensures output_after { output.new ≡ sets output.old at bytes.now }
-    ensures value { result ≡ at + length bytes.now }
+// Stores a span.
+pub fn put_span(bytes: &[u8], output: &mut Output)
+    requires { HasRoom output.old bytes.now }
+    ensures { Wrote output.old bytes.now output.new }
 {
     if BLOCK <= bytes.len() {
-        put_by_blocks(bytes, output, at);
+        put_by_blocks(bytes, output.bytes, output.at);
     } else {
-        put_by_one(bytes, output, at);
+        put_by_one(bytes, output.bytes, output.at);
     }
-    at + bytes.len()
+    output.at += bytes.len();
 }

@@ -124,7 +124,7 @@ module _ {t : SoundRows} {stack₀ output₀ : List ℕ} {depth n₀ end₀ : �
     last : coming_fields t n below ≡ (code "}" ∷ []) ++ pending t below
     last = no_fields t n inside (code "}" ∷ pending t below) w.tuple (λ e. k (rw w.read e))
 
-    pub close_fits : end < length output
+    pub close_fits : end + 1 ≤ length output
     close_fits = omega (arith, put_fits output end _ (code "}" ∷ []) _ last w.room)
 
     pub closed : {output' : List ℕ} {end' : ℕ} → output' ≡ set output end (code "}") → end' ≡ end + 1

@@ -77,7 +77,7 @@ module _ {t : SoundRows} {e : ℕ} {stack : List ℕ} {depth : ℕ} {output : Li
     unfolding pending
     last = begun-item_frame t i inside more e refl is-cell h
 
-    pub begun-fits : at < length output
+    pub begun-fits : at + 1 ≤ length output
     begun-fits = omega (arith, put_fits output at text₀ (code "&" ∷ []) _ last w.room)
 
     pub begun-done : {output' : List ℕ} {at' : ℕ} → output' ≡ set output at (code "&") → at' ≡ at + 1
@@ -103,7 +103,7 @@ module _ {t : SoundRows} {e : ℕ} {stack : List ℕ} {depth : ℕ} {output : Li
         put : Partly output at text₀ output' at' (code "&" ∷ more)
         put = part_put output at text₀ (leaf_bytes t.message.now f) _ (text ∙ leaf.text) (o, a)
 
-        pub and-fits : at' < length output'
+        pub and-fits : at' + 1 ≤ length output'
         and-fits = omega (arith, part_room output at text₀ put (rw o (length-sets output at (leaf_bytes t.message.now f))) w.room)
 
         pub item-done : {output'' : List ℕ} {at'' : ℕ} → output'' ≡ set output' at' (code "&") → at'' ≡ at' + 1

@@ -5,6 +5,7 @@ ghost use Rattle.text.specs.Rows.{root_text};
 use crate::rows::SoundRows;
 use crate::walk::Walk;
 use format::byte;
+use leaves::output::Output;
 
 // Stores the plain text of a sound table's root, and answers how many bytes it has. The stack has a word for each row used.
 pub(crate) fn store_text(table: SoundRows, stack: &mut [u32], output: &mut [u8]) -> usize
@@ -16,12 +17,14 @@ pub(crate) fn store_text(table: SoundRows, stack: &mut [u32], output: &mut [u8])
     let mut walk = Walk {
         table,
         stack,
-        output,
         depth: 0,
+    };
+    let mut place = Output {
+        bytes: output,
         at: 0,
     };
-    walk.put_all();
-    let at = walk.at;
+    walk.put_all(&mut place);
+    let at = place.at;
     output[at] = byte::DOLLAR;
     at + 1
 }

@@ -1,74 +1,60 @@
 //! The walk over the rows: the text of a leaf is stored where the leaf is met, and what is still to come of the rows around it lies on the stack, in frames.
-ghost use Rattle.std.specs.Prelude.{◌≡◌, ◌+◌, ◌≤◌, length};
-ghost use Rattle.std.proofs.lemmas.List.Edits.{sets};
+ghost use Rattle.std.specs.Prelude.{◌≡◌, ◌≤◌, length};
 ghost use Rattle.table.specs.Words.{row_of};
+ghost use Rattle.leaves.specs.Outputs.{HasRoom, Wrote};
 ghost use Rattle.text.specs.Walk.{open_bytes, first_named};
 
 use crate::rows::SoundRows;
 use format::kind::Kind;
 use format::{Row, bound, byte};
 use leaves::leaf;
+use leaves::output::Output;
 use table::RowWords;
 
 // Added to the number of a list cell, in its frame, once its item is begun. Rows used are below the bound.
 const ITEM_BEGUN: u32 = bound::ROWS as u32;
 
-// The walk on its way: the sound table, a stack with a word for each row used and how many frames lie on it, the output and where the text goes on.
+// The walk on its way: the sound table, a stack with a word for each row used, and how many frames lie on it.
 #[derive(Drop)]
 pub(crate) struct Walk<'a> {
     pub table: SoundRows<'a>,
     pub stack: &'a mut [u32],
-    pub output: &'a mut [u8],
     pub depth: usize,
-    pub at: usize,
     ghost stack_words: { table.used ≤ length stack.now },
 }
 
-// The row whose text comes first in a row's own, and where the text goes on.
-#[derive(Clone, Copy, Debug, PartialEq, Eq)]
-struct Begun {
-    row: Row,
-    at: usize,
-}
-
-// Stores what stands before the first of the rows that a row names: `{` where that is a tuple's field.
+// Stores what stands before the first of the rows that a row names: `{` where that is a tuple's field. Answers that first row.
 #[tactic(auto, unfolding(crate::specs::Walk::open_bytes, crate::specs::Walk::first_named))]
-fn begin(output: &mut [u8], at: usize, words: RowWords) -> Begun
-    requires { at + length (open_bytes (row_of words)) ≤ length output.old }
-    ensures output_after { output.new ≡ sets output.old at (open_bytes (row_of words)) }
-    ensures at_value { (result.at ≡ at + length (open_bytes (row_of words))) × (result.row.0 ≡ first_named (row_of words)) }
+fn begin(output: &mut Output, words: RowWords) -> Row
+    requires { HasRoom output.old (open_bytes (row_of words)) }
+    ensures wrote { Wrote output.old (open_bytes (row_of words)) output.new }
+    ensures first { result.0 ≡ first_named (row_of words) }
 {
     match Kind::try_from(words.kind) {
-        Ok(Kind::Field) => Begun {
-            row: Row(words.first),
-            at: leaf::put_byte(output, at, byte::LEFT_BRACE),
-        },
-        Ok(Kind::Cons) => Begun {
-            row: Row(words.second),
-            at,
-        },
+        Ok(Kind::Field) => {
+            output.put_byte(byte::LEFT_BRACE);
+            Row(words.first)
+        }
+        Ok(Kind::Cons) => Row(words.second),
         // a tag; a row of no other kind names one
-        _ => Begun {
-            row: Row(words.third),
-            at,
-        },
+        _ => Row(words.third),
     }
 }
 
 impl<'a> Walk<'a> {
-    ghost use Rattle.std.specs.Prelude.{◌∷◌, ◌<◌, T, None};
+    ghost use Rattle.std.specs.Prelude.{◌∷◌, ◌+◌, ◌<◌, T, None};
     ghost use Rattle.format.specs.Rows.{is_tuple_kind, cons_kind};
     ghost use Rattle.table.specs.Words.{row_in};
     ghost use Rattle.text.specs.Rows.{root_text};
     ghost use Rattle.text.specs.Walk.{frame_row, pending, coming, coming_fields, Above, Falling};
-    ghost use Rattle.text.specs.Way.{frames, HasRoom, GoneOn};
+    ghost use Rattle.text.specs.Way.{frames, GoneOn};
 
     // Stores the first leaf in row `row`, and what stands before it. The rows around the leaf become frames.
-    fn put_first(&mut self, row: Row)
+    fn put_first(&mut self, row: Row, output: &mut Output)
         requires above { Above self.old.table row.0 (frames self.old) }
-        requires room { HasRoom self.old (coming self.old.table row.0 (frames self.old)) }
-        ensures rises { self.old.at < self.new.at }
-        ensures gone_on { GoneOn self.old (coming self.old.table row.0 (frames self.old)) self.new None }
+        requires room { HasRoom output.old (coming self.old.table row.0 (frames self.old)) }
+        ensures rises { output.old.at < output.new.at }
+        ensures gone_on { GoneOn self.old output.old (coming self.old.table row.0 (frames self.old)) self.new output.new None }
     {
         let table = self.table;
         let mut n = row;
@@ -76,21 +62,19 @@ impl<'a> Walk<'a> {
         while !leaf::is_leaf(words.kind) {
             self.stack[self.depth] = n.0;
             self.depth += 1;
-            let begun = begin(self.output, self.at, words);
-            self.at = begun.at;
-            n = begun.row;
+            n = begin(output, words);
             words = table::read_row(table.rows, n);
         }
-        self.at = leaf::put(table.message, self.output, self.at, words);
+        leaf::put(table.message, output, words);
     }
 
     // Stores the fields of a tuple from row `rest` on, and `}`; or those before one that is no leaf, which comes next, above the tuple's frame.
-    fn put_fields(&mut self, rest: Row) -> Option<Row>
+    fn put_fields(&mut self, rest: Row, output: &mut Output) -> Option<Row>
         requires tuple { T (is_tuple_kind (row_in self.old.table.rows.now rest.0).kind) }
         requires above { Above self.old.table rest.0 (frames self.old) }
-        requires room { HasRoom self.old (coming_fields self.old.table rest.0 (frames self.old)) }
+        requires room { HasRoom output.old (coming_fields self.old.table rest.0 (frames self.old)) }
         ensures done { result ≡ None → self.new.depth ≡ self.old.depth }
-        ensures gone_on { GoneOn self.old (coming_fields self.old.table rest.0 (frames self.old)) self.new result }
+        ensures gone_on { GoneOn self.old output.old (coming_fields self.old.table rest.0 (frames self.old)) self.new output.new result }
     {
         let table = self.table;
         let mut n = rest;
@@ -104,32 +88,32 @@ impl<'a> Walk<'a> {
                 self.depth += 1;
                 return Some(first);
             }
-            self.at = leaf::put(table.message, self.output, self.at, field);
+            leaf::put(table.message, output, field);
             n = Row(words.second);
             words = table::read_row(table.rows, n);
         }
-        self.at = leaf::put_byte(self.output, self.at, byte::RIGHT_BRACE);
+        output.put_byte(byte::RIGHT_BRACE);
         None
     }
 
     // Stores the item of a list cell, of which this was the frame, and `&`; or nothing yet where the item is no leaf, and comes next, above the cell's frame.
-    fn put_item(&mut self, frame: u32, item: Row) -> Option<Row>
+    fn put_item(&mut self, frame: u32, item: Row, output: &mut Output) -> Option<Row>
         requires falling { Falling self.old.table (frame ∷ frames self.old) }
-        requires room { HasRoom self.old (pending self.old.table (frame ∷ frames self.old)) }
+        requires room { HasRoom output.old (pending self.old.table (frame ∷ frames self.old)) }
         requires cell { ((row_in self.old.table.rows.now (frame_row frame)).kind ≡ cons_kind)
             × ((row_in self.old.table.rows.now (frame_row frame)).first ≡ item.0) }
         ensures done { result ≡ None → self.new.depth ≡ self.old.depth }
-        ensures gone_on { GoneOn self.old (pending self.old.table (frame ∷ frames self.old)) self.new result }
+        ensures gone_on { GoneOn self.old output.old (pending self.old.table (frame ∷ frames self.old)) self.new output.new result }
     {
         let table = self.table;
         if ITEM_BEGUN <= frame {
-            self.at = leaf::put_byte(self.output, self.at, byte::AMPERSAND);
+            output.put_byte(byte::AMPERSAND);
             return None;
         }
         let words = table::read_row(table.rows, item);
         if leaf::is_leaf(words.kind) {
-            let end = leaf::put(table.message, self.output, self.at, words);
-            self.at = leaf::put_byte(self.output, end, byte::AMPERSAND);
+            leaf::put(table.message, output, words);
+            output.put_byte(byte::AMPERSAND);
             return None;
         }
         self.stack[self.depth] = frame + ITEM_BEGUN;
@@ -138,43 +122,38 @@ impl<'a> Walk<'a> {
     }
 
     // Takes the frame on top, and stores what is still to come of it, up to a row that is no leaf, which comes next.
-    fn put_frame(&mut self) -> Option<Row>
+    fn put_frame(&mut self, output: &mut Output) -> Option<Row>
         requires some { 0 < self.old.depth }
         requires falling { Falling self.old.table (frames self.old) }
-        requires room { HasRoom self.old (pending self.old.table (frames self.old)) }
+        requires room { HasRoom output.old (pending self.old.table (frames self.old)) }
         ensures done { result ≡ None → self.new.depth + 1 ≡ self.old.depth }
-        ensures gone_on { GoneOn self.old (pending self.old.table (frames self.old)) self.new result }
+        ensures gone_on { GoneOn self.old output.old (pending self.old.table (frames self.old)) self.new output.new result }
     {
         let table = self.table;
         self.depth -= 1;
         let frame = self.stack[self.depth];
         let words = table::read_row(table.rows, Row(frame % ITEM_BEGUN));
         match Kind::try_from(words.kind) {
-            Ok(Kind::Field) => self.put_fields(Row(words.second)),
+            Ok(Kind::Field) => self.put_fields(Row(words.second), output),
             Ok(Kind::Tag) => {
-                self.at = leaf::put_quoted(
-                    table::span(table.message, words),
-                    self.output,
-                    self.at,
-                    byte::TAG_QUOTE,
-                );
+                leaf::put_quoted(table::span(table.message, words), output, byte::TAG_QUOTE);
                 None
             }
-            Ok(Kind::Cons) => self.put_item(frame, Row(words.first)),
+            Ok(Kind::Cons) => self.put_item(frame, Row(words.first), output),
             // a row of no other kind has a frame
             _ => unreachable!(),
         }
     }
 
     // Stores what is still to come of the frames, up to a row that is no leaf, which comes next.
-    fn put_rest(&mut self) -> Option<Row>
+    fn put_rest(&mut self, output: &mut Output) -> Option<Row>
         requires falling { Falling self.old.table (frames self.old) }
-        requires room { HasRoom self.old (pending self.old.table (frames self.old)) }
+        requires room { HasRoom output.old (pending self.old.table (frames self.old)) }
         ensures whole { result ≡ None → self.new.depth ≡ 0 }
-        ensures gone_on { GoneOn self.old (pending self.old.table (frames self.old)) self.new result }
+        ensures gone_on { GoneOn self.old output.old (pending self.old.table (frames self.old)) self.new output.new result }
     {
         while 0 < self.depth {
-            let next = self.put_frame();
+            let next = self.put_frame(output);
             if next.is_some() {
                 return next;
             }
@@ -183,16 +162,16 @@ impl<'a> Walk<'a> {
     }
 
     // Stores the text of the root, but for `$`, where no frame lies on the stack yet.
-    pub(crate) fn put_all(&mut self)
+    pub(crate) fn put_all(&mut self, output: &mut Output)
         requires begins { self.old.depth ≡ 0 }
-        requires room { HasRoom self.old (root_text self.old.table) }
+        requires room { HasRoom output.old (root_text self.old.table) }
         ensures whole { self.new.depth ≡ 0 }
-        ensures gone_on { GoneOn self.old (root_text self.old.table) self.new None }
+        ensures gone_on { GoneOn self.old output.old (root_text self.old.table) self.new output.new None }
     {
         let mut next = Some(self.table.root);
         while let Some(row) = next {
-            self.put_first(row);
-            next = self.put_rest();
+            self.put_first(row, output);
+            next = self.put_rest(output);
         }
     }
 }

@@ -3,7 +3,7 @@ use Rattle.text.proofs.Storing.{begins, above-next, room-next, falling-next, roo
 use Rattle.text.proofs.walk.Walk.put_all.Goals as goal
 
 pub loop-next-init : goal.loop-next-init
-loop-next-init c = record { gone_on = begins _ c.requires.begins; whole = λ e. c.requires.begins }
+loop-next-init c = record { gone_on = begins _ _ c.requires.begins; whole = λ e. c.requires.begins }
 
 pub put_first-requires : goal.put_first-requires
 put_first-requires c =

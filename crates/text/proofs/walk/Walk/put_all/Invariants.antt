@@ -9,9 +9,9 @@ use Rattle.text.proofs.walk.Walk.put_all.Given as goal
 
 abbrev pub invariant-loop-next : goal.invariant-loop-next
 invariant-loop-next l = record {
-  gone_on : GoneOn l.initial.self (root_text l.initial.self.table) l.self l.next;
+  gone_on : GoneOn l.initial.self l.initial.output (root_text l.initial.self.table) l.self l.output l.next;
   whole : l.next ≡ None → l.self.depth ≡ 0;
 }
 
 abbrev pub decreases-loop-next : goal.decreases-loop-next
-decreases-loop-next l = length l.initial.self.output.now - l.self.at
+decreases-loop-next l = length l.initial.output.bytes.now - l.output.at

@@ -45,8 +45,8 @@ returns-then-not-is_leaf-clause-gone_on c =
       part = rw inv.same_depth above.part;
     }
 
-pub put-self-requires : goal.put-self-requires
-put-self-requires c =
+pub put-requires : goal.put-requires
+put-requires c =
     let leaf = sym c.is_leaf.ensures ∙ c.if-not-is_leaf.false in
     let all = leaf-fits c.loop-words.invariant.fielding c.loop-words-test.true c.read_row-field.ensures leaf in
     record { inside = all.0; room = all.1 }
@@ -61,23 +61,23 @@ pub loop-words-preserved : goal.loop-words-preserved
 loop-words-preserved c =
     let inv = c.loop-words.invariant in
     let leaf = sym c.is_leaf.ensures ∙ c.if-not-is_leaf.false in
-    let put = c.put-self.ensures in
+    let put = c.put.ensures in
     record {
-      same = inv.same;
+      same = record { table = inv.same.table; stack = inv.same.stack; output = put.same ∙ inv.same.output };
       same_depth = inv.same_depth;
-      fielding = next inv.fielding c.loop-words-test.true c.read_row-field.ensures leaf put.output_after put.value c.read_row-words-in-loop-words.ensures;
+      fielding = next inv.fielding c.loop-words-test.true c.read_row-field.ensures leaf put.bytes put.at c.read_row-words-in-loop-words.ensures;
     }
 
-pub put_byte-self-requires : goal.put_byte-self-requires
-put_byte-self-requires c = close_fits c.loop-words.invariant.fielding c.loop-words-test.false
+pub put_byte-requires : goal.put_byte-requires
+put_byte-requires c = close_fits c.loop-words.invariant.fielding c.loop-words-test.false
 
 pub returns-clause-gone_on : goal.returns-clause-gone_on
 returns-clause-gone_on c =
     let inv = c.loop-words.invariant in
-    let put = c.put_byte-self.ensures in
-    let done = closed inv.fielding c.loop-words-test.false put.output_after put.value in
+    let put = c.put_byte.ensures in
+    let done = closed inv.fielding c.loop-words-test.false put.bytes put.at in
     record {
-      same = inv.same;
+      same = record { table = inv.same.table; stack = inv.same.stack; output = put.same ∙ inv.same.output };
       ready = rw inv.same_depth done.ready;
       part = rw inv.same_depth done.part;
     }

@@ -8,10 +8,11 @@ use Rattle.text.proofs.walk.Walk.put_fields.Given as goal
 abbrev pub invariant-loop-words : goal.invariant-loop-words
 invariant-loop-words l =
     let w = l.initial.self in
+    let o = l.initial.output in
     record {
-      same : Same w l.self;
+      same : Same w o l.self l.output;
       same_depth : l.self.depth ≡ w.depth;
-      fielding : Fielding w.table w.stack.now w.output.now w.depth l.initial.n.0 w.at l.self.stack.now l.self.output.now l.n.0 (row_of l.words) l.self.at;
+      fielding : Fielding w.table w.stack.now o.bytes.now w.depth l.initial.n.0 o.at l.self.stack.now l.output.bytes.now l.n.0 (row_of l.words) l.output.at;
     }
 
 abbrev pub decreases-loop-words : goal.decreases-loop-words

@@ -31,28 +31,28 @@ overflow_add-self c =
     let inv = c.loop-n.invariant in
     omega (arith, frame-fits inv.entering (rw inv.same.table at c.loop-n.self.stack_words))
 
-pub begin-begun-requires : goal.begin-begun-requires
-begin-begun-requires c = begin_fits c.loop-n.invariant.entering (sym c.is_leaf.ensures ∙ c.loop-n-test.true)
+pub begin-n-requires : goal.begin-n-requires
+begin-n-requires c = begin_fits c.loop-n.invariant.entering (sym c.is_leaf.ensures ∙ c.loop-n-test.true)
 
 pub read_row-words-requires-in-loop-n : goal.read_row-words-requires-in-loop-n
 read_row-words-requires-in-loop-n c =
-    omega (arith, c.begin-begun.ensures.at_value.1, first-room c.loop-n.invariant.entering (sym c.is_leaf.ensures ∙ c.loop-n-test.true))
+    omega (arith, c.begin-n.ensures.first, first-room c.loop-n.invariant.entering (sym c.is_leaf.ensures ∙ c.loop-n-test.true))
 
 pub loop-n-smaller : goal.loop-n-smaller
-loop-n-smaller c = omega (arith, c.begin-begun.ensures.at_value.1, first-earlier c.loop-n.invariant.entering (sym c.is_leaf.ensures ∙ c.loop-n-test.true))
+loop-n-smaller c = omega (arith, c.begin-n.ensures.first, first-earlier c.loop-n.invariant.entering (sym c.is_leaf.ensures ∙ c.loop-n-test.true))
 
 pub loop-n-preserved : goal.loop-n-preserved
 loop-n-preserved c =
     let inv = c.loop-n.invariant in
-    let begun = c.begin-begun.ensures in
+    let begun = c.begin-n.ensures in
     let words = rw inv.same.table at c.loop-n.self.stack_words in
     record {
-      same = inv.same;
-      entering = entered inv.entering (sym c.is_leaf.ensures ∙ c.loop-n-test.true) words begun.output_after begun.at_value c.read_row-words-in-loop-n.ensures;
+      same = record { table = inv.same.table; stack = inv.same.stack; output = begun.wrote.same ∙ inv.same.output };
+      entering = entered inv.entering (sym c.is_leaf.ensures ∙ c.loop-n-test.true) words begun.wrote.bytes (begun.wrote.at, begun.first) c.read_row-words-in-loop-n.ensures;
     }
 
-pub put-self-requires : goal.put-self-requires
-put-self-requires c =
+pub put-requires : goal.put-requires
+put-requires c =
     let all = leaf-fits c.loop-n.invariant.entering (sym c.is_leaf.ensures ∙ c.loop-n-test.false) in
     record { inside = all.0; room = all.1 }
 
@@ -60,9 +60,9 @@ pub returns : goal.returns
 unfolding ReadyNext coming_next
 returns c =
     let inv = c.loop-n.invariant in
-    let put = c.put-self.ensures in
-    let all = leaf-stored inv.entering (sym c.is_leaf.ensures ∙ c.loop-n-test.false) put.output_after put.value in
+    let put = c.put.ensures in
+    let all = leaf-stored inv.entering (sym c.is_leaf.ensures ∙ c.loop-n-test.false) put.bytes put.at in
     record {
       rises = all.1.1;
-      gone_on = record { same = inv.same; ready = all.0; part = all.1.0 };
+      gone_on = record { same = record { table = inv.same.table; stack = inv.same.stack; output = put.same ∙ inv.same.output }; ready = all.0; part = all.1.0 };
     }

@@ -34,9 +34,9 @@ span-requires c =
     let tag = sym c.in-Ok-Tag.ensures ∙ ap kind_number c.in-Ok-Tag.field-0-is in
     (tag_fits (turn_of c.requires) c.read_row-words.ensures tag).0
 
-pub put_quoted-self-requires : goal.put_quoted-self-requires
+pub put_quoted-requires : goal.put_quoted-requires
 unfolding frame_row
-put_quoted-self-requires c =
+put_quoted-requires c =
     let tag = sym c.in-Ok-Tag.ensures ∙ ap kind_number c.in-Ok-Tag.field-0-is in
     let fits = (tag_fits (turn_of c.requires) c.read_row-words.ensures tag).1 in
     rw c.span.ensures fits
@@ -70,9 +70,9 @@ pub returns-in-Ok-Tag-clause-gone_on : goal.returns-in-Ok-Tag-clause-gone_on
 unfolding frame_row
 returns-in-Ok-Tag-clause-gone_on c =
     let tag = sym c.in-Ok-Tag.ensures ∙ ap kind_number c.in-Ok-Tag.field-0-is in
-    let put = c.put_quoted-self.ensures in
-    let done = tag-turned (turn_of c.requires) c.read_row-words.ensures tag (rw c.span.ensures at put.output_after) (rw c.span.ensures at put.value) in
-    record { same = record { table = refl; stack = refl; output = refl }; ready = done.ready; part = done.part }
+    let put = c.put_quoted.ensures in
+    let done = tag-turned (turn_of c.requires) c.read_row-words.ensures tag (rw c.span.ensures at put.bytes) (rw c.span.ensures at put.at) in
+    record { same = record { table = refl; stack = refl; output = put.same }; ready = done.ready; part = done.part }
 
 pub returns-in-Ok-Cons-clause-gone_on : goal.returns-in-Ok-Cons-clause-gone_on
 unfolding frame_row

@@ -5,7 +5,7 @@ use Rattle.text.proofs.Passes.{gone_none, no_row, ready_there, room-there, gone-
 use Rattle.text.proofs.walk.Walk.put_rest.Goals as goal
 
 pub loop-self-init : goal.loop-self-init
-loop-self-init c = gone_none _ c.requires.falling
+loop-self-init c = gone_none _ _ c.requires.falling
 
 pub put_frame-next-requires-clause-falling : goal.put_frame-next-requires-clause-falling
 unfolding ReadyNext
