@@ -16,7 +16,8 @@ use Rattle.text.specs.declared.rows.SoundRows.{SoundRows}
 use Rattle.text.specs.Rows.{row_used}
 use Rattle.text.specs.Walk.{frame_row, pending, coming_fields, Frame, of_cell, of_field, of_tag, Above, Falling}
 use Rattle.text.proofs.Partly.{put_fits, part_put}
-use Rattle.text.proofs.Frames.{top-first, above-inside, above-used, above-room, above_lower, falling_below, found, field_names, field_rest, field_frame, tag-inside, tag-frame}
+use Rattle.text.proofs.Frames.{top-first, above-inside, above-used, above-room, above_lower, falling_below, found}
+use Rattle.text.proofs.Frames.{field_names, field_rest, field_frame, tag-inside, tag-frame}
 use Rattle.text.proofs.Turned.{Turned, turned-done}
 
 -- the frame on top of the stack, of so many, has its turn

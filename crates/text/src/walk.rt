@@ -14,7 +14,8 @@ use table::RowWords;
 // Added to the number of a list cell, in its frame, once its item is begun. Rows used are below the bound.
 const ITEM_BEGUN: u32 = bound::ROWS as u32;
 
-// The walk on its way: the sound table, a stack with a word for each row used, and how many frames lie on it.
+// The walk on its way: the sound table, a stack with a word for each row used, and how many frames lie on it. The output goes beside it, as a parameter: the
+// check does not know what a struct in a struct has stored into memory that is lent to it.
 #[derive(Drop)]
 pub(crate) struct Walk<'a> {
     pub table: SoundRows<'a>,
@@ -161,7 +162,8 @@ impl<'a> Walk<'a> {
         None
     }
 
-    // Stores the text of the root, but for `$`, where no frame lies on the stack yet.
+    // Stores the text of the root, but for `$`, where no frame lies on the stack yet. Its loop is not in `store_text`, which lends the output: after a loop there
+    // the check would not know what the output holds.
     pub(crate) fn put_all(&mut self, output: &mut Output)
         requires begins { self.old.depth ≡ 0 }
         requires room { HasRoom output.old (root_text self.old.table) }

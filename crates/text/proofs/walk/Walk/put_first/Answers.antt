@@ -45,10 +45,11 @@ pub loop-n-preserved : goal.loop-n-preserved
 loop-n-preserved c =
     let inv = c.loop-n.invariant in
     let begun = c.begin-n.ensures in
+    let inner = sym c.is_leaf.ensures ∙ c.loop-n-test.true in
     let words = rw inv.same.table at c.loop-n.self.stack_words in
     record {
       same = record { table = inv.same.table; stack = inv.same.stack; output = begun.wrote.same ∙ inv.same.output };
-      entering = entered inv.entering (sym c.is_leaf.ensures ∙ c.loop-n-test.true) words begun.wrote.bytes (begun.wrote.at, begun.first) c.read_row-words-in-loop-n.ensures;
+      entering = entered inv.entering inner words begun.wrote.bytes (begun.wrote.at, begun.first) c.read_row-words-in-loop-n.ensures;
     }
 
 pub put-requires : goal.put-requires

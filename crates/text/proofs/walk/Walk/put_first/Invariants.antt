@@ -10,7 +10,8 @@ invariant-loop-n l =
     let o = l.initial.output in
     record {
       same : Same w o l.self l.output;
-      entering : Entering w.table w.stack.now o.bytes.now l.initial.n.0 w.depth o.at l.self.stack.now l.output.bytes.now l.n.0 (row_of l.words) l.self.depth l.output.at;
+      entering : Entering w.table w.stack.now o.bytes.now l.initial.n.0 w.depth o.at
+          l.self.stack.now l.output.bytes.now l.n.0 (row_of l.words) l.self.depth l.output.at;
     }
 
 abbrev pub decreases-loop-n : goal.decreases-loop-n

@@ -3,8 +3,8 @@ use mathlib.Core.Path.{refl, sym, ap, ◌∙◌}
 use native.Mathlib.Omega.{arith}
 use Rattle.format.specs.Kinds.{kind_number}
 use Rattle.text.specs.Walk.{frame_row}
-use Rattle.text.proofs.Turns.{turn_of, stacked, falls, room-first, top_in_bounds, frame-room, rest-tuple, rest-above, rest-room, fields_text, tag_fits, tag-turned}
-use Rattle.text.proofs.Turns.{cell, no_other}
+use Rattle.text.proofs.Turns.{turn_of, stacked, falls, room-first, top_in_bounds, frame-room, cell, no_other}
+use Rattle.text.proofs.Turns.{rest-tuple, rest-above, rest-room, fields_text, tag_fits, tag-turned}
 use Rattle.text.proofs.walk.Walk.put_frame.Goals as goal
 
 pub offset_bounds-self-self : goal.offset_bounds-self-self

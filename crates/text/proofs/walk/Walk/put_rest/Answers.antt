@@ -21,4 +21,6 @@ returns-then-is_some-clause-gone_on c = gone-then c.loop-self.invariant c.put_fr
 
 pub loop-self-preserved : goal.loop-self-preserved
 unfolding coming_next
-loop-self-preserved c = rw (no_row c.put_frame-next.result (sym c.is_some.ensures ∙ c.if-is_some.false)) at (gone-then c.loop-self.invariant c.put_frame-next.ensures.gone_on)
+loop-self-preserved c =
+    let none = no_row c.put_frame-next.result (sym c.is_some.ensures ∙ c.if-is_some.false) in
+    rw none at (gone-then c.loop-self.invariant c.put_frame-next.ensures.gone_on)
