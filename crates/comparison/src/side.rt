@@ -5,7 +5,7 @@ ghost use Rattle.comparison.specs.Same.{placed, SpanInside};
 
 use table::RowWords;
 
-// A message, its row table and the rows used, which the soundness check passes.
+// A message, its row table and the rows used, which the soundness check passes. Nothing compares or prints this or what follows: they are lent.
 #[derive(Clone, Copy)]
 pub(crate) struct Side<'a> {
     pub message: &'a [u8],

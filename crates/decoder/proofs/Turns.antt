@@ -1,39 +1,30 @@
 -- What an item's turn makes of the run: the machine goes on and all that holds before an item holds again, or the run is over.
-use Prim.Native.Nat.{ℕ, zero, suc, ◌+◌, ◌≤◌, ◌<◌}
+use Prim.Native.Nat.{ℕ, suc, ◌+◌, ◌≤◌, ◌<◌}
 use mathlib.Core.Path.{◌≡◌, refl, ap, sym, subst, ◌∙◌}
 use mathlib.Core.Bool.{Bool, true, false, cond}
 use mathlib.Core.Option.{none}
 use mathlib.Core.List.{List, ◌∷◌}
-use mathlib.Core.Logic.{inl, inr}
-use native.Mathlib.Nat.{not-suc-le-zero}
 use native.Mathlib.Omega.{arith}
 use lib.ListN.{length, drop, get_or, length-drop}
 use lib.Seq.{drop-drop}
 use lib.Dec.{ltb}
 use borrow.Author.Tests.{ltb-false}
-use Rattle.std.proofs.lemmas.Bool.{cases_eq}
-use Rattle.std.proofs.lemmas.List.Elements.{All-head, All-tail}
-use Rattle.std.specs.Prelude.{Ok, Err}
-use Rattle.std.specs.declared.ops.ControlFlow.TheVariants.{Continue, Break}
-use Rattle.format.specs.Bound.{register_words}
 use Rattle.format.specs.Lex.{lex}
 use Rattle.format.specs.Machine as M
 use Rattle.format.specs.Machine.{Machine, Limits, Step, Outcome, Result, refuse, go, finish, refused, accepted, bounded, step, follow, run_from}
-use Rattle.format.specs.Rows.{row_values, row_room, rows_of, words_of}
-use Rattle.format.specs.Answer.{Tables, zeroed, limits_of, rows_in, SameLengths}
+use Rattle.format.specs.Rows.{row_values, rows_of}
+use Rattle.format.specs.Answer.{Tables, zeroed, limits_of, rows_in}
 use Rattle.format.specs.Number.{number_of}
 use Rattle.format.specs.declared.refusal.Refused.{Refused}
-use Rattle.format.specs.declared.Row.{Row as RowNumber}
 use Rattle.format.proofs.Items.{lex-ok}
 use Rattle.format.proofs.Moves as Mv
 use Rattle.format.proofs.Moves.{move, Inside, inside}
-use Rattle.format.proofs.SoundRows.{Low, Below, Kept, Accepted, keeps, start-kept}
+use Rattle.format.proofs.SoundRows.{Kept, Accepted, keeps, start-kept}
 use Rattle.format.proofs.Decoded.{rows_in_lem}
 use Rattle.format.proofs.TableRows.{length-rows}
 use Rattle.table.specs.Words.{last_first}
-use Rattle.table.proofs.Rows.{length-last_first, get_d_zeros}
-use Rattle.machine.specs.declared.state.State.{State}
-use Rattle.machine.specs.Held.{Ready, register_in, machine_of, turn, after, limited, taken}
+use Rattle.table.proofs.Rows.{get_d_zeros}
+use Rattle.machine.specs.Held.{State, ends, register_in, machine_of, going, refusing, after, limited, taken}
 use Rattle.decoder.proofs.Within.{Within, skipped}
 
 -- a test of room that did not refuse
@@ -61,15 +52,6 @@ module _ (lim : Limits) (at used : ℕ) where
         },
       )
 
--- row numbers on the stack, one by one
-below_at : (n : ℕ) (words : List ℕ) (d : ℕ) → Below n (last_first words d) → (i : ℕ) → i < d → get_or words i 0 < n
-unfolding last_first
-below_at n words zero h i l = absurd (omega arith)
-below_at n words (suc d) h i l = elim (cases_eq i d) [
-  | inl e ↦ rw e (All-head (Low n) _ (last_first words d) h)
-  | inr e ↦ below_at n words d (All-tail (Low n) _ (last_first words d) h) i (omega arith)
-]
-
 -- an answer that goes on, read off the machine's step
 record Went (t : Tables) (s : State) (t' : Tables) (s' : State) (x : Step row_values) : Type 0 where
   skip : ℕ
@@ -83,14 +65,14 @@ record Went (t : Tables) (s : State) (t' : Tables) (s' : State) (x : Step row_va
   registers : register_in t'.registers ≡ machine.registers
   rows : rows_in t'.rows (rows_of s'.next.0 t'.rows) ≡ rows_in t.rows machine.memory
 
-goes_on : (t : Tables) (s : State) (t' : Tables) (s' : State) (x : Step row_values) → turn (Ok (Continue s')) t' ≡ after t s x → Went t s t' s' x
-unfolding turn after
+goes_on : (t : Tables) (s : State) (t' : Tables) (s' : State) (x : Step row_values) → going s' t' ≡ after t s x → Went t s t' s' x
+unfolding going after
 goes_on t s t' s' (refuse n p) e = let z : ◌≡◌ {A = ℕ} 0 1 = cc in absurd (omega arith)
 goes_on t s t' s' (finish v) e = let z : ◌≡◌ {A = ℕ} 0 1 = cc in absurd (omega arith)
 goes_on t s t' s' (go k w m) e = record { skip = k; made = w; machine = m; is = refl; at = cc; used = cc; stack = cc; marks = cc; registers = cc; rows = cc }
 
-stops_at : (t : Tables) (s : State) (t' : Tables) (r : Refused) (x : Step row_values) → turn (Err r) t' ≡ after t s x → x ≡ refuse (number_of r.refusal) r.place.0
-unfolding turn after
+stops_at : (t : Tables) (s : State) (t' : Tables) (r : Refused) (x : Step row_values) → refusing r t' ≡ after t s x → x ≡ refuse (number_of r.refusal) r.place.0
+unfolding going after
 stops_at t s t' r (refuse n p) e =
     let number : number_of r.refusal ≡ n = cc in
     let place : r.place.0 ≡ p = cc in
@@ -98,31 +80,22 @@ stops_at t s t' r (refuse n p) e =
 stops_at t s t' r (finish v) e = let z : ◌≡◌ {A = ℕ} 0 1 = cc in absurd (omega arith)
 stops_at t s t' r (go k w m) e = let z : ◌≡◌ {A = ℕ} 0 1 = cc in absurd (omega arith)
 
-ends_with : (t : Tables) (s : State) (t' : Tables) (root : RowNumber) (x : Step row_values) → turn (Ok (Break root)) t' ≡ after t s x → (x ≡ finish root.0) × (t' ≡ t)
-unfolding turn after
-ends_with t s t' root (refuse n p) e = let z : ◌≡◌ {A = ℕ} 0 1 = cc in absurd (omega arith)
-ends_with t s t' root (finish v) e =
-    let same : root.0 ≡ v = cc in
+ends_with : (t : Tables) (s : State) (t' : Tables) (root used : ℕ) (x : Step row_values) → ends root used t' ≡ after t s x → (x ≡ finish root) × (used ≡ s.next.0) × (t' ≡ t)
+unfolding going after
+ends_with t s t' root used (refuse n p) e = let z : ◌≡◌ {A = ℕ} 0 1 = cc in absurd (omega arith)
+ends_with t s t' root used (finish v) e =
+    let same : root ≡ v = cc in
+    let count : used ≡ s.next.0 = cc in
     let kept : t' ≡ t = cc in
-    (rw same refl, kept)
-ends_with t s t' root (go k w m) e = let z : ◌≡◌ {A = ℕ} 0 1 = cc in absurd (omega arith)
+    (rw same refl, count, kept)
+ends_with t s t' root used (go k w m) e = let z : ◌≡◌ {A = ℕ} 0 1 = cc in absurd (omega arith)
 
 -- all that holds before the item at a state's place, of which `bytes` are left of the message
 pub record Before (message : List ℕ) (t : Tables) (s : State) : Type 0 where
-  pub ready : Ready t s
   pub kept : Kept message s.at.0 (drop s.at.0 message) s.next.0 (machine_of t s)
   pub inside : s.at.0 ≤ length message
 
--- the machine is within the limits
-pub within : (t : Tables) (s : State) → Ready t s → Within (limits_of t) s.next.0 (machine_of t s)
-unfolding limits_of machine_of
-within t s h = record {
-  rows = h.used;
-  stack = omega (arith, h.depth, length-last_first t.stack s.depth.0);
-  marks = omega (arith, h.noted, length-last_first t.marks s.marks);
-}
-
-module _ (message : List ℕ) (t t' : Tables) (same : SameLengths t t') (s : State) (b : ℕ) (before : Before message t s) (here : drop s.at.0 message ≡ b ∷ drop (suc s.at.0) message) where
+module _ (message : List ℕ) (t t' : Tables) (s : State) (b : ℕ) (before : Before message t s) (here : drop s.at.0 message ≡ b ∷ drop (suc s.at.0) message) where
   abbrev rest : List ℕ
   rest = drop (suc s.at.0) message
 
@@ -136,16 +109,16 @@ module _ (message : List ℕ) (t t' : Tables) (same : SameLengths t t') (s : Sta
   abbrev pub ran : Outcome (Result row_values)
   ran = run_from row_values limits (drop s.at.0 message) 0 s.at.0 s.next.0 (machine_of t s)
 
-  pub refuses : (r : Refused) → turn (Err r) t' ≡ taken t s rest (lex b rest) → ran ≡ refused (number_of r.refusal) r.place.0
+  pub refuses : (r : Refused) → refusing r t' ≡ taken t s rest (lex b rest) → ran ≡ refused (number_of r.refusal) r.place.0
   unfolding taken limited run_from follow
   refuses r e = rw (here, stops_at t s t' r (bounded row_values limits s.at.0 s.next.0 stepped) e) refl
 
-  pub accepts : (root : RowNumber) → turn (Ok (Break root)) t' ≡ taken t s rest (lex b rest)
-      → (ran ≡ accepted (suc s.at.0) (record { used = s.next.0; root = root.0; memory = (machine_of t s).memory })) × (t'.rows ≡ t.rows)
+  pub accepts : (root used : ℕ) → ends root used t' ≡ taken t s rest (lex b rest)
+      → (ran ≡ accepted (suc s.at.0) (record { used = used; root = root; memory = (machine_of t s).memory })) × (used ≡ s.next.0) × (t'.rows ≡ t.rows)
   unfolding taken limited run_from follow
-  accepts root e =
-      let x = ends_with t s t' root (bounded row_values limits s.at.0 s.next.0 stepped) e in
-      (rw (here, x.0) refl, ap (λ (u : Tables). u.rows) x.1)
+  accepts root used e =
+      let x = ends_with t s t' root used (bounded row_values limits s.at.0 s.next.0 stepped) e in
+      (rw (here, x.0, x.1) refl, x.1, ap (λ (u : Tables). u.rows) x.2)
 
   -- what holds after it
   pub record After (s' : State) : Type 0 where
@@ -182,23 +155,6 @@ module _ (message : List ℕ) (t t' : Tables) (same : SameLengths t t') (s : Sta
     unfolding machine_of
     held = rw (on.stack, on.marks, on.registers, memory) refl
 
-    ready_on : Ready t' s'
-    unfolding limits_of row_room rows_in
-    ready_on =
-        let room = step_went.1 in
-        let deep : s'.depth.0 ≡ length on.machine.stack = sym (length-last_first t'.stack s'.depth.0) ∙ ap length on.stack in
-        let noted : s'.marks ≡ length on.machine.marks = sym (length-last_first t'.marks s'.marks) ∙ ap length on.marks in
-        let used : s'.next.0 ≤ row_room t'.rows = rw (← same.rows, on.used) room.rows in
-        record {
-          used = used;
-          depth = rw (← same.stack, deep) room.stack;
-          noted = rw (← same.marks, noted) room.marks;
-          registers = rw (← same.registers) before.ready.registers;
-          values = λ i l.
-              let v = below_at (length on.machine.memory) t'.stack s'.depth.0 (rw on.stack kept_on.stack) i l in
-              omega (arith, v, count);
-        }
-
     after_on : After s'
     unfolding run_from follow
     after_on =
@@ -206,7 +162,6 @@ module _ (message : List ℕ) (t t' : Tables) (same : SameLengths t t') (s : Sta
         let left : drop on.skip rest ≡ drop s'.at.0 message = drop-drop on.skip (suc s.at.0) message ∙ ap (λ (n : ℕ). drop n message) place in
         record {
           before' = record {
-            ready = ready_on;
             kept = rw held (record { here = refl; sound = kept_on.sound; count = count; stack = kept_on.stack; registers = kept_on.registers });
             inside = omega (arith, skip-inside, length-drop (suc s.at.0) message, place, ap length here, length-drop s.at.0 message);
           };
@@ -216,7 +171,7 @@ module _ (message : List ℕ) (t t' : Tables) (same : SameLengths t t') (s : Sta
               (skipped limits on.skip rest (suc s.at.0) (s.next.0 + on.made) on.machine skip-inside);
         }
 
-  pub goes_after : (s' : State) → turn (Ok (Continue s')) t' ≡ taken t s rest (lex b rest) → After s'
+  pub goes_after : (s' : State) → going s' t' ≡ taken t s rest (lex b rest) → After s'
   unfolding taken limited
   goes_after s' e = after_on s' (goes_on t s t' s' _ e)
 
@@ -237,16 +192,9 @@ module _ (t : Tables) (registers : t.registers ≡ zeroed t.registers) where
   unfolding machine_of last_first rows_of M.start
   start-machine = rw empty refl
 
-  pub start-before : (message : List ℕ) → register_words ≤ length t.registers → Before message t start_state
-  unfolding rows_in zeroed rows_of words_of
-  start-before message h = record {
-    ready = record {
-      used = omega arith;
-      depth = omega arith;
-      noted = omega arith;
-      registers = h;
-      values = λ i l. absurd (not-suc-le-zero l);
-    };
-    kept = rw start-machine (start-kept message);
-    inside = omega arith;
-  }
+  pub all-empty : (x : ℕ) → get_or t.registers x 0 ≤ 0
+  unfolding zeroed
+  all-empty x = rw (registers, get_d_zeros (length t.registers) x) (omega arith)
+
+  pub start-before : (message : List ℕ) → Before message t start_state
+  start-before message = record { kept = rw start-machine (start-kept message); inside = omega arith }

@@ -9,10 +9,14 @@ ghost use Rattle.decoder.specs.Run.{left_as, left_by};
 use crate::Accepted;
 use format::refusal::{Refusal, Refused};
 use format::{Depth, Offset, Row, class};
-use machine::state::State;
+use machine::start::Start;
+use machine::state::Machine;
 use std::ops::ControlFlow;
 
-// Items from left to right until the message ends or is refused.
+// Items from left to right until the message ends or is refused. Not put into its caller: there, what is looked up after the run takes registers from the loop,
+// and lists and short integers take up to 8 % more instructions.
+// The message's bound stays a clause, as in `text::write_table` and `comparison::compare_tables`: a type for it would be made and taken apart in one call.
+#[inline(never)]
 pub(crate) fn run(
     message: &[u8],
     rows: &mut [u32],
@@ -25,23 +29,27 @@ pub(crate) fn run(
     ensures { left_as result rows.new ≡ left_by rows.old (M.run row_values (limits_of (tables rows.old stack.old marks.old registers.old)) message.now) }
 {
     let classes = class::classes();
-    let mut s = State {
-        at: Offset(0),
+    let mut machine = Machine {
+        rows,
+        stack,
+        marks,
+        registers,
         next: Row(0),
         depth: Depth(0),
-        marks: 0,
+        noted: 0,
     };
-    while let Some(&b) = message.get(s.at.0) {
-        let next = step::step(&classes, message, rows, stack, marks, registers, s, b)?;
+    let mut at = Offset(0);
+    while let Some(&b) = message.get(at.0) {
+        let next = step::step(&classes, &mut machine, Start { message, at }, b)?;
         match next {
-            ControlFlow::Continue(after) => {
-                s = after;
+            ControlFlow::Continue(end) => {
+                at = end;
             }
             ControlFlow::Break(root) => {
                 let accepted = Accepted {
-                    consumed: s.at.0 + 1,
+                    consumed: at.0 + 1,
                     root,
-                    used: s.next.0,
+                    used: machine.next.0,
                 };
                 return Ok(accepted);
             }

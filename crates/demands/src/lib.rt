@@ -46,14 +46,6 @@ impl From<Refused> for WordRefused {
     }
 }
 
-impl From<Refusal> for WordRefused {
-    ghost from_gives = { λ refusal e. e ≡ NoWord refusal };
-
-    fn from(refusal: Refusal) -> WordRefused {
-        WordRefused::NoWord(refusal)
-    }
-}
-
 // Why two messages were not compared: the refusal of the first, or of the second; or a scratch shorter than the rows used of both. The tables that `decode` left
 // are sound, and both messages within the bound, so that `compare` refuses nothing else.
 #[derive(Clone, Copy, Debug, PartialEq, Eq)]

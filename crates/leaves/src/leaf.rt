@@ -21,7 +21,7 @@ pub struct Signed {
     pub magnitude: u64,
 }
 
-// An integer by the halves of its two's complement.
+// An integer by the halves of its two's complement. No `From`: the two words are no value of a type.
 pub fn from_halves(high: u32, low: u32) -> Signed
     ensures { integer_bytes result.negative result.magnitude ≡ text_on (T.int (from_bits 64 (high * 2 ^ 32 + low))) [] }
 {
@@ -70,7 +70,7 @@ pub fn put_quoted(bytes: &[u8], output: &mut Output, quote: u8)
     output.put_byte(quote);
 }
 
-// What stands before and after the bytes of an atom, a string or a binary.
+// What stands before and after the bytes of an atom, a string or a binary, and not of a tag, as that of `sound` is the other way.
 #[tactic(auto, unfolding(crate::specs::Leaves::quote_of))]
 fn quote_of(k: Kind) -> u8
     ensures { result ≡ quote_of (kind_number k) }

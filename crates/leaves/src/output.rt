@@ -1,6 +1,6 @@
 //! An output on its way: bytes are stored one after another.
 
-// The bytes that are lent, and the place of the next one.
+// The bytes that are lent, and the place of the next one. Nothing compares or prints lent memory.
 #[derive(Drop)]
 pub struct Output<'a> {
     pub bytes: &'a mut [u8],

@@ -71,7 +71,7 @@ fn near(start: usize, n: usize) -> usize
 }
 
 // The same as `read_quoted` from the opening quote on, for text that mostly is a short name: it is small enough for the compiler to put it into the caller's
-// loop, and leaves to `read_quoted` what the first bytes do not tell.
+// loop, and leaves to `read_quoted` what the first bytes do not tell (DECISIONS.md, 'Names in the loop').
 pub fn read_name(message: &[u8], from: Offset, quote: u8) -> Result<Quoted, Unclosed>
     ensures { result ≡ quoted_from quote false from.0 (drop from.0 message.now) }
 {

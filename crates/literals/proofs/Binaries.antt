@@ -21,7 +21,7 @@ use Rattle.format.specs.Machine.{base, step}
 use Rattle.format.specs.Rows.{Row, row, row_values, row_integer, integer_of_row, make_rows, add, integer_kind, binary_kind, span_row}
 use Rattle.format.specs.Answer.{Tables, tables}
 use Rattle.table.specs.Words.{row_in, last_first}
-use Rattle.machine.specs.declared.state.State.{State}
+use Rattle.machine.specs.Held.{State}
 use Rattle.machine.specs.Held.{Ready, Turn, stops, machine_of, limited, taken, with_row, made}
 use Rattle.literals.specs.Readers.{count_as}
 use Rattle.machine.proofs.Limits.{refused-step}

@@ -23,8 +23,8 @@ use Rattle.lexer.specs.declared.integer.Begun.TheVariants.{Minus, Digits}
 use Rattle.lexer.specs.declared.integer.Integer.{Integer}
 use Rattle.lexer.specs.declared.integer.NoInteger.{NoInteger}
 use Rattle.lexer.specs.declared.integer.NoInteger.TheVariants.{OutOfRange, Stray, Ended}
-use Rattle.machine.specs.declared.state.State.{State}
-use Rattle.machine.specs.Held.{machine_of, turn, taken, with_row, made}
+use Rattle.machine.specs.Held.{State}
+use Rattle.machine.specs.Held.{machine_of, going, refusing, taken, with_row, made}
 use Rattle.literals.specs.Readers.{no_integer_as, begun_item}
 use Rattle.machine.proofs.Limits.{refused-step}
 
@@ -72,11 +72,11 @@ module _ (t : Tables) (s : State) (r : List ℕ) (begun : Begun) where
   integer-made i = rw (i.item, ← i.same) refl
 
   -- the refusal where there is none
-  pub no_integer : (ended : Offset) → ended.0 ≡ suc s.at.0 + length r → (why : NoInteger) → integer_from begun (s.at.0 + 1) r ≡ Err why → turn (Err (no_integer_as why s.at ended)) t ≡ taken t s r (begun_item begun r)
-  unfolding no_integer_as turn taken step
+  pub no_integer : (ended : Offset) → ended.0 ≡ suc s.at.0 + length r → (why : NoInteger) → integer_from begun (s.at.0 + 1) r ≡ Err why → refusing (no_integer_as why s.at ended) t ≡ taken t s r (begun_item begun r)
+  unfolding no_integer_as going taken step
   no_integer ended last why e = by why (subst (λ (x : Result Integer NoInteger). Tells (s.at.0 + 1) x (begun_item begun r)) e (tells begun (s.at.0 + 1) r))
     where
-      by : (why : NoInteger) → Tells (s.at.0 + 1) (Err why) (begun_item begun r) → turn (Err (no_integer_as why s.at ended)) t ≡ taken t s r (begun_item begun r)
+      by : (why : NoInteger) → Tells (s.at.0 + 1) (Err why) (begun_item begun r) → refusing (no_integer_as why s.at ended) t ≡ taken t s r (begun_item begun r)
       by OutOfRange h = rw h (sym (refused-step t s 5 s.at.0))
       by (Stray p) h = rw (h.0, h.1) (sym (refused-step t s 4 (s.at.0 + 1)))
       by (Ended b) h = rw (h, last) (sym (refused-step t s 3 (suc s.at.0 + length r)))

@@ -10,7 +10,6 @@ use lib.ListN.{length, get_or, take, drop, length-drop}
 use lib.Seq.{length-take-le}
 use denote.Enum.Declared.{tag_of}
 use Rattle.std.specs.Prelude.{Result, Ok, Err}
-use Rattle.std.specs.declared.ops.ControlFlow.TheVariants.{Continue}
 use Rattle.format.specs.Kinds.{kind_number}
 use Rattle.format.specs.Lex as L
 use Rattle.format.specs.Lex.{Item, Scan, scan, quoted, quoted_item, atom_item, string_item, tag_item, comment_item}
@@ -28,8 +27,8 @@ use Rattle.table.specs.Words.{last_first}
 use Rattle.lexer.specs.Quoted.{escaped_after, scanned, quoted_from}
 use Rattle.lexer.specs.declared.quoted.Quoted.{Quoted}
 use Rattle.lexer.specs.declared.quoted.Unclosed.{Unclosed}
-use Rattle.machine.specs.declared.state.State.{State}
-use Rattle.machine.specs.Held.{Ready, Spans, stops, machine_of, turn, limited, taken, with_row, made}
+use Rattle.machine.specs.Held.{State}
+use Rattle.machine.specs.Held.{Ready, Spans, stops, machine_of, going, refusing, limited, taken, with_row, made}
 use Rattle.literals.specs.Readers.{unclosed_as, closed_as}
 use Rattle.machine.proofs.Limits.{refused-step}
 use Rattle.machine.proofs.Pops.{pop-few, pop-top}
@@ -88,11 +87,11 @@ was-closed (Err why) ended y e = cc
 
 -- the refusal of text that is not closed
 module _ (quote : ℕ) (t : Tables) (s : State) (r : List ℕ) (item : ℕ → Item) (ended : Offset) (last : ended.0 ≡ suc s.at.0 + length r) where
-  pub refused-text : (why : Unclosed) → quoted_from quote false (s.at.0 + 1) r ≡ Err why → turn (Err (unclosed_as why ended)) t ≡ taken t s r (quoted quote item r)
-  unfolding quoted_from scanned unclosed_as turn taken quoted quoted_item step
+  pub refused-text : (why : Unclosed) → quoted_from quote false (s.at.0 + 1) r ≡ Err why → refusing (unclosed_as why ended) t ≡ taken t s r (quoted quote item r)
+  unfolding quoted_from scanned unclosed_as going taken quoted quoted_item step
   refused-text why e = by (scan quote false 0 r) why e
     where
-      by : (x : Scan) (why : Unclosed) → scanned (s.at.0 + 1) (escaped_after false r) x ≡ Err why → turn (Err (unclosed_as why ended)) t ≡ limited t s (step row_values s.at.0 r (machine_of t s) (quoted_item item x))
+      by : (x : Scan) (why : Unclosed) → scanned (s.at.0 + 1) (escaped_after false r) x ≡ Err why → refusing (unclosed_as why ended) t ≡ limited t s (step row_values s.at.0 r (machine_of t s) (quoted_item item x))
       by L.ended (Unclosed.Ended escaped) f = rw last (sym (refused-step t s 3 (suc s.at.0 + length r)))
       by L.ended (Unclosed.Stray p) f = cc
       by (L.stray_at k) (Unclosed.Stray p) f =
@@ -102,10 +101,10 @@ module _ (quote : ℕ) (t : Tables) (s : State) (r : List ℕ) (item : ℕ → I
       by (L.stray_at k) (Unclosed.Ended escaped) f = cc
       by (L.closed_at k) why f = cc
 
-  pub unclosed : (e : Refused) → closed_as (quoted_from quote false (s.at.0 + 1) r) ended ≡ Err e → turn (Err e) t ≡ taken t s r (quoted quote item r)
+  pub unclosed : (e : Refused) → closed_as (quoted_from quote false (s.at.0 + 1) r) ended ≡ Err e → refusing e t ≡ taken t s r (quoted quote item r)
   unclosed e f = by (quoted_from quote false (s.at.0 + 1) r) refl f
     where
-      by : (x : Result Quoted Unclosed) → quoted_from quote false (s.at.0 + 1) r ≡ x → closed_as x ended ≡ Err e → turn (Err e) t ≡ taken t s r (quoted quote item r)
+      by : (x : Result Quoted Unclosed) → quoted_from quote false (s.at.0 + 1) r ≡ x → closed_as x ended ≡ Err e → refusing e t ≡ taken t s r (quoted quote item r)
       by (Ok y) g f = cc
       by (Err why) g f =
           let same : unclosed_as why ended ≡ e = cc in
@@ -122,7 +121,7 @@ module _ (rows stack marks registers : List ℕ) (s : State) (r : List ℕ) (n :
       rw (c.0, f s.at.0 r (machine_of (tables rows stack marks registers) s) n, count, add-one s.at.0) refl
 
   pub comment_passes : Ready (tables rows stack marks registers) s → quoted_from (code "%") false (s.at.0 + 1) r ≡ Ok (record { count = n; end = end })
-      → turn (Ok (Continue (record { at = end; next = s.next; depth = s.depth; marks = s.marks }))) (tables rows stack marks registers) ≡ taken (tables rows stack marks registers) s r (quoted (code "%") comment_item r)
+      → going (record { at = end; next = s.next; depth = s.depth; marks = s.marks }) (tables rows stack marks registers) ≡ taken (tables rows stack marks registers) s r (quoted (code "%") comment_item r)
   unfolding taken quoted quoted_item step
   comment_passes h e =
       let c = closed (code "%") s.at.0 r n end e in

@@ -1,8 +1,6 @@
 //! Integers.
-ghost use Rattle.std.specs.Prelude.{◌≡◌, List, ℕ, ◌+◌, ◌≤◌, ◌<◌, length, drop};
-ghost use Rattle.format.specs.Bound.{message_bound};
-ghost use Rattle.format.specs.Answer.{tables};
-ghost use Rattle.machine.specs.Held.{Ready, turn, taken};
+ghost use Rattle.std.specs.Prelude.{◌≡◌, ◌≤◌};
+ghost use Rattle.machine.specs.Held.{rest_of, turned, takes};
 ghost use Rattle.literals.specs.Readers.{no_integer_as, begun_item, begun_by};
 
 use format::kind::Kind;
@@ -10,8 +8,8 @@ use format::refusal::{Refusal, Refused};
 use format::{Offset, byte};
 use lexer::integer;
 use lexer::integer::{Begun, Integer, NoInteger};
-use machine::state::{Answer, State};
-use machine::value;
+use machine::start::Start;
+use machine::state::{Answer, Machine};
 use table::RowWords;
 
 // The refusal where no integer is read at `at`; `ended` is the slice's end.
@@ -38,23 +36,18 @@ fn begun_by(b: u8) -> Begun
 }
 
 // An integer, whose first byte is b.
-pub fn integer_item(message: &[u8], rows: &mut [u32], stack: &mut [u32], s: State, b: u8) -> Answer
-    requires at_in_bounds { (s.at.0 < length message.now) × (length message.now ≤ message_bound) }
-    requires minus_or_digit { (b ≡ 45 → ⊥) → 48 ≤ b }
-    ensures { (marks registers : List ℕ) → Ready (tables rows.old stack.old marks registers) s → turn result (tables rows.new stack.new marks registers) ≡ taken (tables rows.old stack.old marks registers) s (drop (s.at.0 + 1) message.now) (begun_item (begun_by b) (drop (s.at.0 + 1) message.now)) }
+pub fn integer_item(machine: &mut Machine, start: Start, b: u8) -> Answer
+    requires { (b ≡ 45 → ⊥) → 48 ≤ b }
+    ensures { turned result machine.new ≡ takes machine.old start.entry.at.0 (rest_of start.entry) (begun_item (begun_by b) (rest_of start.entry)) }
 {
-    let at = s.at;
-    let depth = s.depth;
-    let read = integer::read_integer(message, Offset(at.0 + 1), begun_by(b));
+    let read = integer::read_integer(start.message, start.after(), begun_by(b));
     let Integer { bits, end } = match read {
         Ok(integer) => integer,
-        Err(why) => return Err(no_integer(why, at, Offset(message.len()))),
+        Err(why) => return Err(no_integer(why, start.at, start.end())),
     };
-    value::push_value(
-        rows,
-        stack,
-        s,
-        depth,
+    machine.push_value(
+        start.at,
+        0,
         end,
         RowWords {
             kind: Kind::Integer as u32,

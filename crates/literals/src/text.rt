@@ -1,20 +1,19 @@
 //! Quoted text: atoms, strings, comments and tags.
-ghost use Rattle.std.specs.Prelude.{◌≡◌, List, ℕ, ◌+◌, ◌≤◌, ◌<◌, false, length, drop};
+ghost use Rattle.std.specs.Prelude.{◌≡◌, ℕ, false, length, drop};
 ghost use Rattle.lexer.specs.Quoted.{quoted_from};
-ghost use Rattle.format.specs.Bound.{message_bound};
 ghost use Rattle.format.specs.Kinds.{kind_number};
 ghost use Rattle.format.specs.Lex.{Item, quoted};
-ghost use Rattle.format.specs.Answer.{Tables, tables};
-ghost use Rattle.machine.specs.Held.{Ready, Spans, turn, taken};
+ghost use Rattle.machine.specs.declared.state.Machine.{Machine as Lent};
+ghost use Rattle.machine.specs.Held.{Spans, rest_of, turned, takes};
 ghost use Rattle.literals.specs.Readers.{unclosed_as, closed_as, tag_text, comment_text};
 
 use format::kind::Kind;
 use format::refusal::{Refusal, Refused};
-use format::{Depth, Offset, byte};
+use format::{Offset, byte};
 use lexer::quoted;
 use lexer::quoted::{Quoted, Unclosed};
-use machine::state::{Answer, State};
-use machine::{state, value};
+use machine::start::Start;
+use machine::state::{Answer, Machine};
 use std::ops::ControlFlow;
 use table::RowWords;
 
@@ -33,36 +32,25 @@ fn unclosed(why: Unclosed, ended: Offset) -> Refused
 fn closed_text(message: &[u8], from: Offset, quote: u8) -> Result<Quoted, Refused>
     ensures { result ≡ closed_as (quoted_from quote false from.0 (drop from.0 message.now)) (record { 0 = length message.now }) }
 {
-    match quoted::read_quoted(message, from, quote, false) {
-        Ok(quoted) => Ok(quoted),
-        Err(why) => Err(unclosed(why, Offset(message.len()))),
-    }
+    quoted::read_quoted(message, from, quote, false).map_err(|why| unclosed(
+        why,
+        Offset(message.len()),
+    ))
 }
 
 // An atom or a string.
-pub fn quoted_item(
-    message: &[u8],
-    rows: &mut [u32],
-    stack: &mut [u32],
-    s: State,
-    kind: Kind,
-    quote: u8,
-) -> Answer
-    requires { (s.at.0 < length message.now) × (length message.now ≤ message_bound) }
-    ensures { (marks registers : List ℕ) (item : ℕ → Item) → Ready (tables rows.old stack.old marks registers) s → Spans (kind_number kind) item → turn result (tables rows.new stack.new marks registers) ≡ taken (tables rows.old stack.old marks registers) s (drop (s.at.0 + 1) message.now) (quoted quote item (drop (s.at.0 + 1) message.now)) }
+pub fn quoted_item(machine: &mut Machine, start: Start, kind: Kind, quote: u8) -> Answer
+    ensures { (item : ℕ → Item) → Spans (kind_number kind) item → turned result machine.new ≡ takes machine.old start.entry.at.0 (rest_of start.entry) (quoted quote item (rest_of start.entry)) }
 {
-    let start = s.at.0 + 1;
-    let depth = s.depth;
-    let Quoted { count, end } = closed_text(message, Offset(start), quote)?;
-    value::push_value(
-        rows,
-        stack,
-        s,
-        depth,
+    let first = start.after();
+    let Quoted { count, end } = closed_text(start.message, first, quote)?;
+    machine.push_value(
+        start.at,
+        0,
         end,
         RowWords {
             kind: kind as u32,
-            first: start as u32,
+            first: first.0 as u32,
             second: count as u32,
             third: 0,
         },
@@ -70,53 +58,33 @@ pub fn quoted_item(
 }
 
 // A comment.
-pub fn comment_item(message: &[u8], s: State) -> Answer
-    requires { (s.at.0 < length message.now) × (length message.now ≤ message_bound) }
-    ensures { (t : Tables) → Ready t s → turn result t ≡ taken t s (drop (s.at.0 + 1) message.now) (comment_text (drop (s.at.0 + 1) message.now)) }
+pub fn comment_item(start: Start) -> Answer
+    ensures { (m : Lent) → turned result m ≡ takes m start.entry.at.0 (rest_of start.entry) (comment_text (rest_of start.entry)) }
 {
-    let next = s.next;
-    let depth = s.depth;
-    let Quoted { end, .. } = closed_text(message, Offset(s.at.0 + 1), byte::COMMENT_QUOTE)?;
-    Ok(ControlFlow::Continue(State {
-        at: end,
-        next,
-        depth,
-        marks: s.marks,
-    }))
+    let Quoted { end, .. } = closed_text(start.message, start.after(), byte::COMMENT_QUOTE)?;
+    Ok(ControlFlow::Continue(end))
 }
 
 // A tag over the top value.
-pub fn tag_item(
-    message: &[u8],
-    rows: &mut [u32],
-    stack: &mut [u32],
-    marks: &[u32],
-    s: State,
-) -> Answer
-    requires at_in_bounds { (s.at.0 < length message.now) × (length message.now ≤ message_bound) }
-    requires marks_in_bounds { s.marks ≤ length marks.now }
-    requires depth_in_bounds { s.depth.0 ≤ length stack.old }
-    ensures { (registers : List ℕ) → Ready (tables rows.old stack.old marks.now registers) s → turn result (tables rows.new stack.new marks.now registers) ≡ taken (tables rows.old stack.old marks.now registers) s (drop (s.at.0 + 1) message.now) (tag_text (drop (s.at.0 + 1) message.now)) }
+pub fn tag_item(machine: &mut Machine, start: Start) -> Answer
+    ensures { turned result machine.new ≡ takes machine.old start.entry.at.0 (rest_of start.entry) (tag_text (rest_of start.entry)) }
 {
-    let start = s.at.0 + 1;
-    let depth = s.depth;
+    let first = start.after();
     // a function for these lines, with `?`, took 10 instructions more a tag
-    let read = quoted::read_name(message, Offset(start), byte::TAG_QUOTE);
+    let read = quoted::read_name(start.message, first, byte::TAG_QUOTE);
     let Quoted { count, end } = match read {
         Ok(quoted) => quoted,
-        Err(why) => return Err(unclosed(why, Offset(message.len()))),
+        Err(why) => return Err(unclosed(why, start.end())),
     };
-    state::need_values(marks, s, 1)?;
-    let inner = state::top(stack, depth);
-    value::push_value(
-        rows,
-        stack,
-        s,
-        Depth(depth.0 - 1),
+    machine.need_values(start.at, 1)?;
+    let inner = machine.top(machine.depth);
+    machine.push_value(
+        start.at,
+        1,
         end,
         RowWords {
             kind: Kind::Tag as u32,
-            first: start as u32,
+            first: first.0 as u32,
             second: count as u32,
             third: inner.0,
         },

@@ -5,3 +5,5 @@ pub mod Limits
 pub mod Pops
 -- items that make no row
 pub mod Passes
+-- the machine in its tables
+pub mod Lent

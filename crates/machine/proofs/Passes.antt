@@ -8,10 +8,8 @@ use Rattle.format.specs.Bound.{stack_bound, mark_bound}
 use Rattle.format.specs.Machine.{Machine, go}
 use Rattle.format.specs.Rows.{row_values, rows_of}
 use Rattle.format.specs.Answer.{Tables, rows_in}
-use Rattle.machine.specs.declared.state.State.{State}
-use Rattle.std.specs.Prelude.{Ok}
-use Rattle.std.specs.declared.ops.ControlFlow.TheVariants.{Continue}
-use Rattle.machine.specs.Held.{Ready, goes, machine_of, turn, past, limited}
+use Rattle.machine.specs.Held.{State}
+use Rattle.machine.specs.Held.{Ready, goes, machine_of, going, past, limited}
 use Rattle.table.proofs.Rows.{length-last_first}
 use Rattle.machine.proofs.Limits.{room_for}
 use lib.ListN.{drop, length-drop}
@@ -30,8 +28,8 @@ module _ (t : Tables) (s : State) (h : Ready t s) where
 
   -- nothing but the place changes
   pub passes : (k end : ℕ) → end ≡ suc s.at.0 + k
-      → turn (Ok (Continue (record { at = record { 0 = end }; next = s.next; depth = s.depth; marks = s.marks }))) t ≡ limited t s (go k 0 (machine_of t s))
-  unfolding turn machine_of
+      → going (record { at = record { 0 = end }; next = s.next; depth = s.depth; marks = s.marks }) t ≡ limited t s (go k 0 (machine_of t s))
+  unfolding going machine_of
   passes k end e = rw e (sym (no_row k _ _ _ (length-last_first t.stack s.depth.0) (length-last_first t.marks s.marks) h.depth h.noted))
 
 -- the bytes after an item's first reach to the slice's end

@@ -16,7 +16,7 @@ use Rattle.format.specs.Answer.{Tables}
 use Rattle.format.specs.Rows.{row_at, rows_of}
 use Rattle.table.specs.Words.{row_in}
 use Rattle.table.proofs.Rows.{row_of}
-use Rattle.machine.specs.declared.state.State.{State}
+use Rattle.machine.specs.Held.{State}
 use Rattle.machine.specs.Held.{Ready}
 
 module _ (at : ℕ) (marks words : List ℕ) (next : ℕ → List ℕ → Step row_values) where

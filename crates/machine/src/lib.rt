@@ -1,5 +1,6 @@
-//! The machine as the tables and the state hold it: its state, what an item answers, and a value pushed.
+//! The machine in lent tables: where an item begins, what it answers, and a value pushed.
 #![tactic(auto)]
 
+pub mod start;
 pub mod state;
 pub mod value;

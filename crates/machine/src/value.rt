@@ -1,43 +1,37 @@
 //! A new value: one row more, and its number on the stack.
-ghost use Rattle.std.specs.Prelude.{◌≡◌, List, ℕ, suc, ◌+◌, ◌≤◌};
+ghost use Rattle.std.specs.Prelude.{◌≡◌, ℕ, suc, ◌+◌};
 ghost use Rattle.table.specs.Words.{row_of};
-ghost use Rattle.format.specs.Answer.{tables};
-ghost use Rattle.machine.specs.Held.{Ready, turn, made};
+ghost use Rattle.machine.specs.Held.{turned, makes};
 
-use crate::state;
-use crate::state::{Answer, State};
+use crate::state::{Answer, Machine, refused_at};
 use format::refusal::Refusal;
-use format::{Depth, Offset, Row, bound};
+use format::{Depth, Offset, Row};
 use std::ops::ControlFlow;
 use table::RowWords;
 
-// One row more: its number goes on the stack over the values below `below`, and the item ends at `end`.
-pub fn push_value(
-    rows: &mut [u32],
-    stack: &mut [u32],
-    s: State,
-    below: Depth,
-    end: Offset,
-    words: RowWords,
-) -> Answer
-    ensures { (marks registers : List ℕ) (k : ℕ) → Ready (tables rows.old stack.old marks registers) s → below.0 ≤ s.depth.0 → end.0 ≡ suc s.at.0 + k → turn result (tables rows.new stack.new marks registers) ≡ made (tables rows.old stack.old marks registers) s below.0 k (row_of words) }
-{
-    let at = s.at;
-    let next = s.next;
-    let n = next.0;
-    let i = below.0;
-    if table::row_room(rows) <= n as usize {
-        return Err(state::refused_at(at, Refusal::NoRows));
+impl<'a> Machine<'a> {
+    // One row more, with its number on the stack in the place of so many values: of an item from `place` to `end`.
+    pub fn push_value(
+        &mut self,
+        place: Offset,
+        popped: usize,
+        end: Offset,
+        words: RowWords,
+    ) -> Answer
+        ensures { (k : ℕ) → end.0 ≡ suc place.0 + k → turned result self.new ≡ makes self.old place.0 popped k (row_of words) }
+    {
+        let next = self.next;
+        let i = self.depth.0.saturating_sub(popped);
+        if self.row_room() <= next.0 as usize {
+            return Err(refused_at(place, Refusal::NoRows));
+        }
+        if self.stack_room() <= i {
+            return Err(refused_at(place, Refusal::NoStack));
+        }
+        table::store_row(self.rows, next, words);
+        self.stack[i] = next.0;
+        self.next = Row(next.0 + 1);
+        self.depth = Depth(i + 1);
+        Ok(ControlFlow::Continue(end))
     }
-    if state::room(stack.len(), bound::STACK) <= i {
-        return Err(state::refused_at(at, Refusal::NoStack));
-    }
-    table::store_row(rows, next, words);
-    stack[i] = n;
-    Ok(ControlFlow::Continue(State {
-        at: end,
-        next: Row(n + 1),
-        depth: Depth(i + 1),
-        marks: s.marks,
-    }))
 }

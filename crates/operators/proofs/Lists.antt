@@ -13,7 +13,7 @@ use Rattle.format.specs.Machine.{base, step}
 use Rattle.format.specs.Rows.{row, row_values, is_list_kind, make_rows, add, nil_kind, cons_kind, nil_row, cons_row}
 use Rattle.format.specs.Answer.{Tables, tables}
 use Rattle.table.specs.Words.{row_in, last_first}
-use Rattle.machine.specs.declared.state.State.{State}
+use Rattle.machine.specs.Held.{State}
 use Rattle.machine.specs.Held.{Ready, stops, machine_of, limited, taken, with_row, made}
 use Rattle.machine.proofs.Limits.{refused-step}
 use Rattle.machine.proofs.Pops.{pop-few, pop-top, held-row}

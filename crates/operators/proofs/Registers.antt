@@ -10,7 +10,6 @@ use lib.Seq.{get_or-set_same, get_or-set_other}
 use lib.Dec.{eqb}
 use borrow.Author.Tests.{eqb-true, eqb-false, ne_eqb}
 use Rattle.std.specs.Prelude.{Result, Ok, Err}
-use Rattle.std.specs.declared.ops.ControlFlow.TheVariants.{Continue}
 use Rattle.format.specs.Byte as B
 use Rattle.format.specs.Byte.{has_class}
 use Rattle.format.specs.Lex as L
@@ -24,9 +23,9 @@ use Rattle.lexer.specs.Register.{register_from}
 use Rattle.lexer.specs.declared.register.Register.{Register}
 use Rattle.lexer.specs.declared.register.NoRegister.{NoRegister}
 use Rattle.lexer.specs.declared.register.NoRegister.TheVariants.{Stray, Ended}
-use Rattle.machine.specs.declared.state.State.{State}
+use Rattle.machine.specs.Held.{State}
 use Rattle.format.specs.Answer.{tables}
-use Rattle.machine.specs.Held.{Ready, stops, register_in, machine_of, turn, taken}
+use Rattle.machine.specs.Held.{Ready, stops, register_in, machine_of, going, taken}
 use Rattle.table.proofs.Rows.{length-last_first}
 use Rattle.machine.proofs.Limits.{refused-step}
 use Rattle.machine.proofs.Pops.{pop-few, pop-top}
@@ -104,9 +103,9 @@ module _ (rows stack marks registers : List ℕ) (s : State) (r : List ℕ) wher
     store-few h = rw ((named s.at.0 r b end e).0, pop-few s.at.0 (last_first marks s.marks) stack _ s.depth.0 h) (refused-step (tables rows stack marks registers) s 6 s.at.0)
 
     pub store_goes : Ready (tables rows stack marks registers) s → b < length registers → base (last_first marks s.marks) < s.depth.0 → (v : ℕ) → v ≡ get_or stack (s.depth.0 - 1) 0
-        → turn (Ok (Continue (record { at = end; next = s.next; depth = record { 0 = s.depth.0 - 1 }; marks = s.marks }))) (tables rows stack marks (set registers b (v + 1)))
+        → going (record { at = end; next = s.next; depth = record { 0 = s.depth.0 - 1 }; marks = s.marks }) (tables rows stack marks (set registers b (v + 1)))
         ≡ taken (tables rows stack marks registers) s r (store r)
-    unfolding taken step turn machine_of
+    unfolding taken step going machine_of
     store_goes h l g v q =
         let t = tables rows stack marks registers in
         let n = named s.at.0 r b end e in

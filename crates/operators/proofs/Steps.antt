@@ -15,23 +15,21 @@ use Rattle.format.specs.Machine.{Machine, refuse, bounded, step}
 use Rattle.format.specs.Rows.{row_values}
 use Rattle.format.specs.Answer.{Tables, tables}
 use Rattle.table.specs.Words.{last_first}
-use Rattle.machine.specs.declared.state.State.{State}
-use Rattle.std.specs.Prelude.{Ok, Err}
-use Rattle.std.specs.declared.ops.ControlFlow.TheVariants.{Continue, Break}
+use Rattle.machine.specs.Held.{State}
 use Rattle.format.specs.declared.refusal.Refusal.TheVariants as Refusal
-use Rattle.machine.specs.Held.{Ready, stops, register_in, machine_of, turn, after, limited, taken}
+use Rattle.machine.specs.Held.{Ready, ends, stops, register_in, machine_of, going, refusing, after, limited, taken}
 use Rattle.table.proofs.Rows.{pushed, length-last_first}
 use Rattle.machine.proofs.Limits.{refused-step, no_stack, no_marks}
 use Rattle.machine.proofs.Passes.{no_row, passes}
 
 -- white space
-pub white : (t : Tables) (s : State) → Ready t s → (r : List ℕ) → turn (Ok (Continue (record { at = record { 0 = s.at.0 + 1 }; next = s.next; depth = s.depth; marks = s.marks }))) t ≡ taken t s r white_item
+pub white : (t : Tables) (s : State) → Ready t s → (r : List ℕ) → going (record { at = record { 0 = s.at.0 + 1 }; next = s.next; depth = s.depth; marks = s.marks }) t ≡ taken t s r white_item
 unfolding taken step
 white t s h r = passes t s h 0 (s.at.0 + 1) (omega arith)
 
 -- a byte with no meaning
-pub stray : (t : Tables) (s : State) (r : List ℕ) → turn (Err (record { refusal = Refusal.Stray; place = s.at })) t ≡ taken t s r (L.stray 0)
-unfolding taken step turn
+pub stray : (t : Tables) (s : State) (r : List ℕ) → refusing (record { refusal = Refusal.Stray; place = s.at }) t ≡ taken t s r (L.stray 0)
+unfolding taken step going
 stray t s r =
     let here : s.at.0 + 0 ≡ s.at.0 = omega arith in
     rw here (sym (refused-step t s 4 s.at.0))
@@ -45,9 +43,9 @@ module _ (rows stack marks registers : List ℕ) (s : State) (r : List ℕ) (h :
       no_marks t s 0 0 _ (omega (arith, h.used)) (omega (arith, h.depth, length-last_first stack s.depth.0)) (omega (arith, length-last_first marks s.marks))
 
   pub open_goes : s.marks < min (length marks) mark_bound
-      → turn (Ok (Continue (record { at = record { 0 = s.at.0 + 1 }; next = s.next; depth = s.depth; marks = s.marks + 1 }))) (tables rows stack (set marks s.marks s.depth.0) registers)
+      → going (record { at = record { 0 = s.at.0 + 1 }; next = s.next; depth = s.depth; marks = s.marks + 1 }) (tables rows stack (set marks s.marks s.depth.0) registers)
       ≡ taken (tables rows stack marks registers) s r open_item
-  unfolding taken step turn machine_of
+  unfolding taken step going machine_of
   open_goes g =
       let t = tables rows stack marks registers in
       let at : s.at.0 + 1 ≡ suc s.at.0 + 0 = omega arith in
@@ -71,9 +69,9 @@ module _ (rows stack marks registers : List ℕ) (s : State) (r : List ℕ) (b w
         (no_stack (tables rows stack marks registers) s 0 0 _ (omega (arith, h.used)) (omega (arith, length-last_first stack s.depth.0)))
 
     pub push_goes : s.depth.0 < min (length stack) stack_bound
-        → turn (Ok (Continue (record { at = record { 0 = s.at.0 + 1 }; next = s.next; depth = record { 0 = s.depth.0 + 1 }; marks = s.marks }))) (tables rows (set stack s.depth.0 (word - 1)) marks registers)
+        → going (record { at = record { 0 = s.at.0 + 1 }; next = s.next; depth = record { 0 = s.depth.0 + 1 }; marks = s.marks }) (tables rows (set stack s.depth.0 (word - 1)) marks registers)
         ≡ taken (tables rows stack marks registers) s r (push_item b)
-    unfolding taken step turn machine_of register_in M.push_register
+    unfolding taken step going machine_of register_in M.push_register
     push_goes g =
         let t = tables rows stack marks registers in
         let at : s.at.0 + 1 ≡ suc s.at.0 + 0 = omega arith in
@@ -104,6 +102,6 @@ module _ (rows stack marks registers : List ℕ) (s : State) (r : List ℕ) wher
   unfolding taken limited after bounded step machine_of M.end_message last_first
   end_11 e h = rw (e, not_one s.depth.0 h) refl
 
-  pub end-done : s.marks ≡ 0 → s.depth.0 ≡ 1 → (root : ℕ) → root ≡ get_or stack (s.depth.0 - 1) 0 → turn (Ok (Break (record { 0 = root }))) (tables rows stack marks registers) ≡ taken (tables rows stack marks registers) s r end_item
-  unfolding taken limited after bounded step turn machine_of M.end_message M.only_value last_first
+  pub end-done : s.marks ≡ 0 → s.depth.0 ≡ 1 → (root : ℕ) → root ≡ get_or stack (s.depth.0 - 1) 0 → ends root s.next.0 (tables rows stack marks registers) ≡ taken (tables rows stack marks registers) s r end_item
+  unfolding taken limited after bounded step going machine_of M.end_message M.only_value last_first
   end-done e d root q = rw (q, e, d) refl

@@ -14,11 +14,9 @@ use Rattle.format.specs.Machine as M
 use Rattle.format.specs.Machine.{Machine, refuse, go, base, step}
 use Rattle.format.specs.Rows.{Row, row_values, row_room, rows_of, make_rows}
 use Rattle.table.specs.Words.{last_first, between, tuple_rows, stored_rows}
-use Rattle.machine.specs.declared.state.State.{State}
-use Rattle.std.specs.Prelude.{Ok}
-use Rattle.std.specs.declared.ops.ControlFlow.TheVariants.{Continue}
+use Rattle.machine.specs.Held.{State}
 use Rattle.format.specs.Answer.{tables}
-use Rattle.machine.specs.Held.{Ready, stops, register_in, machine_of, turn, taken}
+use Rattle.machine.specs.Held.{Ready, stops, register_in, machine_of, going, taken}
 use Rattle.format.proofs.TableRows.{length-rows}
 use Rattle.table.proofs.Rows.{pushed, length-last_first, drop-last_first, tuple-rows}
 use Rattle.table.proofs.Cleared.{stored_past}
@@ -86,10 +84,10 @@ module _ (rows stack marks registers : List ℕ) (s : State) (r : List ℕ) wher
           rw (close_step h) (no_stack (tables rows stack marks registers) s 0 (suc (s.depth.0 - low)) closed (omega arith) (omega (arith, length-last_first stack low)))
 
       pub close_goes : Ready (tables rows stack marks registers) s → s.next.0 + (s.depth.0 - low) < row_room rows → low < min (length stack) stack_bound → (last : ℕ) → last ≡ s.next.0 + (s.depth.0 - low)
-          → turn (Ok (Continue (record { at = record { 0 = s.at.0 + 1 }; next = record { 0 = last + 1 }; depth = record { 0 = low + 1 }; marks = s.marks - 1 })))
+          → going (record { at = record { 0 = s.at.0 + 1 }; next = record { 0 = last + 1 }; depth = record { 0 = low + 1 }; marks = s.marks - 1 })
           (tables (stored_rows rows s.next.0 (tuple_rows s.next.0 (between stack low s.depth.0))) (set stack low last) marks registers)
           ≡ taken (tables rows stack marks registers) s r close_item
-      unfolding taken closed turn machine_of
+      unfolding taken closed going machine_of
       close_goes ready g f last q =
           let t = tables rows stack marks registers in
           let at : s.at.0 + 1 ≡ suc s.at.0 + 0 = omega arith in

@@ -100,7 +100,8 @@ pub fn sound_words(message: &[u8], n: Row, words: RowWords) -> bool
     }
 }
 
-// The quote of the texts of a kind; 0 for a kind that has none.
+// The quote of the texts of a kind; 0, as in its definition, for a kind that has none. For tags and not for binaries, as that of `leaves` is the other way: one function for both would
+// have a case that neither caller can meet.
 #[tactic(auto, unfolding(crate::specs::Parts::quote_of))]
 fn quote_of(k: u32) -> u8
     ensures { result ≡ quote_of k }
@@ -123,15 +124,7 @@ pub fn sound_text(message: &[u8], words: RowWords) -> bool
     quote == 0 || spelled_in(message, quote, words.first, words.second)
 }
 
-// Whether a row of this kind is a list. Here and in `is_tuple` a match on the kind takes 2 instructions more a row.
-#[tactic(auto, unfolding(format::specs::Rows::is_list_kind))]
-fn is_list(k: u32) -> bool
-    ensures { result ≡ is_list_kind k }
-{
-    k == Kind::Nil as u32 || k == Kind::Cons as u32
-}
-
-// Whether a row of this kind is a tuple, or the rest of one.
+// Whether a row of this kind is a tuple, or the rest of one. By numbers, as `table::is_list`.
 #[tactic(auto, unfolding(format::specs::Rows::is_tuple_kind))]
 fn is_tuple(k: u32) -> bool
     ensures { result ≡ is_tuple_kind k }
@@ -146,7 +139,7 @@ pub fn sound_rest(kind: u32, rest: u32) -> bool
     ensures { result ≡ sound_rest kind rest }
 {
     match Kind::try_from(kind) {
-        Ok(Kind::Cons) => is_list(rest),
+        Ok(Kind::Cons) => table::is_list(rest),
         Ok(Kind::Field) => is_tuple(rest),
         _ => true,
     }

@@ -5,7 +5,7 @@ ghost use Rattle.format.specs.Sound.{sound_rows};
 
 use format::Row;
 
-// A table whose first `used` rows are sound, the root among them, and the message that they are sound against.
+// A table whose first `used` rows are sound, the root among them, and the message that they are sound against. Nothing compares or prints it.
 #[derive(Clone, Copy)]
 pub(crate) struct SoundRows<'a> {
     pub message: &'a [u8],

@@ -11,11 +11,13 @@ use leaves::leaf;
 use leaves::output::Output;
 use table::RowWords;
 
-// Added to the number of a list cell, in its frame, once its item is begun. Rows used are below the bound.
+// Added to the number of a list cell, in its frame, once its item is begun. Rows used are below the bound. A frame has no flag beside it, since the scratch has one
+// word for each row.
 const ITEM_BEGUN: u32 = bound::ROWS as u32;
 
-// The walk on its way: the sound table, a stack with a word for each row used, and how many frames lie on it. The output goes beside it, as a parameter: the
-// check does not know what a struct in a struct has stored into memory that is lent to it.
+// The walk on its way: the sound table, a stack with a word for each row used, and how many frames lie on it. The output goes beside it, as a parameter, and
+// its stack is no `Stack`: the check does not know what a struct in a struct has stored into memory that is lent to it. Nothing compares or prints it.
+// What is still to come, and that there is room for it, stay clauses: as ghost fields they would have to hold again in the midst of a frame.
 #[derive(Drop)]
 pub(crate) struct Walk<'a> {
     pub table: SoundRows<'a>,

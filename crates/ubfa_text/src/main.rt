@@ -14,7 +14,7 @@ const MESSAGE_BYTES: usize = 16384;
 
 const OUTPUT_BYTES: usize = 16384;
 
-// The plain text of a message, or its refusal.
+// The plain text of a message, or its refusal. No `Display`: the text is bytes, and need be no UTF-8.
 fn print_answer(rt: &impl Print, message: &[u8]) -> io::Result<()> {
     let mut output = [0u8; OUTPUT_BYTES];
     match respond::respond(message, &mut output) {

@@ -52,7 +52,7 @@ fn word_of_rows(message: &[u8], tag: RowWords, block: RowWords, k: u64) -> Resul
     requires { tag.kind ≡ tag_kind → (tag.first + tag.second ≤ length message.now) × (block.kind ≡ binary_kind → block.first + block.second ≤ length message.now) }
     ensures { word_as result ≡ word_of_rows message.now (row_of tag) (row_of block) k }
 {
-    // by number, since one kind is asked for: a match with two arms is no plainer
+    // by number, since each row is asked for one kind: a match with two arms is no plainer
     if tag.kind != Kind::Tag as u32 {
         return Err(Refusal::NoBlock);
     }

@@ -1,16 +1,22 @@
 -- `literals::number::integer_item` meets its contract: a value makes a row, and anything else is refused.
 use mathlib.Core.Path.{sym, ◌∙◌}
+use native.Mathlib.Nat.{sub-zero}
 use native.Mathlib.Omega.{arith}
-use Rattle.format.specs.Answer.{tables}
+use Rattle.machine.specs.Held.{held, turned}
+use Rattle.machine.proofs.Lent.{as-lent}
 use Rattle.machine.proofs.Passes.{rest-ends}
 use Rattle.literals.proofs.Integers as laws
 use Rattle.literals.proofs.number.integer_item.Goals as goal
 
 pub returns-in-Err : goal.returns-in-Err
-returns-in-Err c mk rg _ = rw c.no_integer.ensures (laws.no_integer (tables _ _ mk rg) _ _ _ _ (rest-ends _ _ (omega arith)) _ (sym (rw c.begun_by.ensures at c.read_integer-read.ensures) ∙ c.in-Err.is))
+unfolding turned
+returns-in-Err c =
+    let m = c.args.machine.now in
+    rw c.no_integer.ensures
+    (as-lent m (laws.no_integer (held m) _ _ _ _ (c.end.ensures ∙ rest-ends _ _ c.args.start.inside) _ (rw (c.begun_by.ensures, c.after.ensures) at (sym c.read_integer-read.ensures ∙ c.in-Err.is))))
 
 pub returns : goal.returns
-returns c mk rg h =
-    let i = laws.integer _ _ _ _ (sym (rw c.begun_by.ensures at c.read_integer-read.ensures) ∙ c.in-Ok.is) in
-    c.push_value.ensures mk rg i.bytes h (omega arith) (omega (arith, i.place))
-    ∙ laws.integer-made (tables _ _ mk rg) _ _ _ i
+returns c =
+    let m = c.args.machine.now in
+    let i = laws.integer _ _ _ _ (rw (c.begun_by.ensures, c.after.ensures) at (sym c.read_integer-read.ensures ∙ c.in-Ok.is)) in
+    c.push_value.ensures i.bytes (omega (arith, i.place)) ∙ rw sub-zero (as-lent m (laws.integer-made (held m) _ _ _ i))

@@ -1,20 +1,25 @@
 -- `literals::text::quoted_item` meets its contract: closed text makes a row, and other text is refused.
 use mathlib.Core.Path.{sym, ◌∙◌}
+use native.Mathlib.Nat.{sub-zero}
 use native.Mathlib.Omega.{arith}
-use Rattle.format.specs.Answer.{tables}
-use Rattle.machine.proofs.Limits.{passed_up}
+use Rattle.machine.specs.Held.{held, stands, turned}
+use Rattle.machine.proofs.Lent.{as-lent, passed_up}
 use Rattle.machine.proofs.Passes.{rest-ends}
 use Rattle.literals.proofs.Spans as laws
 use Rattle.literals.proofs.text.quoted_item.Goals as goal
 
 pub returns-in_err-count : goal.returns-in_err-count
-returns-in_err-count c mk rg item _ _ = passed_up _ _ _ c.from_residual.ensures.1 (laws.unclosed _ (tables _ _ mk rg) _ _ item _ (rest-ends _ _ (omega arith)) _ (sym c.in_err-count.ensures))
+unfolding turned
+returns-in_err-count c item _ =
+    let m = c.args.machine.now in
+    passed_up m _ _ c.from_residual.ensures.1
+    (as-lent m (laws.unclosed _ (held m) (stands m c.args.start.at.0) _ item _ (rest-ends _ _ c.args.start.inside) _ (rw c.after-first.ensures at (sym c.in_err-count.ensures))))
 
 pub overflow_cast-count : goal.overflow_cast-count
-overflow_cast-count c = omega (arith, laws.shorter _ _ _ _ _ (laws.was-closed _ _ _ (sym c.in_ok-count.ensures)))
+overflow_cast-count c = omega (arith, c.args.start.bounded, laws.shorter _ _ _ _ _ (rw c.after-first.ensures at (laws.was-closed _ _ _ (sym c.in_ok-count.ensures))))
 
 pub returns : goal.returns
-returns c mk rg item h f =
-    let closed = laws.was-closed _ _ _ (sym c.in_ok-count.ensures) in
-    c.push_value.ensures mk rg _ h (omega arith) (laws.closed _ _ _ _ _ closed).1
-    ∙ rw (laws.as_number c.args.kind) (laws.span-made _ _ mk rg _ _ _ _ _ _ item f closed)
+returns c item f =
+    let closed = rw c.after-first.ensures at (laws.was-closed _ _ _ (sym c.in_ok-count.ensures)) in
+    c.push_value.ensures _ (laws.closed _ _ _ _ _ closed).1
+    ∙ rw (sub-zero, laws.as_number c.args.kind, c.after-first.ensures) (as-lent c.args.machine.now (laws.span-made _ _ _ _ _ _ _ _ _ _ item f closed))
