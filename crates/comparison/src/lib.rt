@@ -30,7 +30,8 @@ fn rows_of_both(used_a: u32, used_b: u32) -> usize
 }
 
 // Whether two rows of sound tables have the same class. `joint` has a word for each row of both sides, and is left with their classes.
-// Both sides and the classes stay three parameters, here and below, with the fact that these are as many as the rows: a value of the three would be made here and lent to two.
+// Both sides and the classes stay three parameters, here and below, with the fact that these are as many as the rows: a value of the three would be made
+// here and lent to two.
 fn same_roots(a: Side, root_a: Row, b: Side, root_b: Row, joint: &mut [u32]) -> bool
     requires among { (root_a.0 < a.used) × (root_b.0 < b.used) }
     requires room { a.used + b.used ≡ length joint.old }

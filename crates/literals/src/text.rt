@@ -40,7 +40,8 @@ fn closed_text(message: &[u8], from: Offset, quote: u8) -> Result<Quoted, Refuse
 
 // An atom or a string.
 pub fn quoted_item(machine: &mut Machine, start: Start, kind: Kind, quote: u8) -> Answer
-    ensures { (item : ℕ → Item) → Spans (kind_number kind) item → turned result machine.new ≡ takes machine.old start.entry.at.0 (rest_of start.entry) (quoted quote item (rest_of start.entry)) }
+    ensures { (item : ℕ → Item) → Spans (kind_number kind) item
+        → turned result machine.new ≡ takes machine.old start.entry.at.0 (rest_of start.entry) (quoted quote item (rest_of start.entry)) }
 {
     let first = start.after();
     let Quoted { count, end } = closed_text(start.message, first, quote)?;
