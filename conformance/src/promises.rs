@@ -102,10 +102,15 @@ impl<'a> Head<'a> {
 
     /// The parameters that are lent for writing.
     fn lent(&self) -> Vec<&'a str> {
-        let each = self.parameters.split(['(', ',']);
+        let each = self.parameters.split(['(', ',']).map(str::trim);
+        // a method's own value has no type beside it
+        let own = each
+            .clone()
+            .filter(|parameter| parameter.starts_with('&') && parameter.ends_with("mut self"));
         let typed = each.filter_map(|parameter| parameter.split_once(':'));
         let lent = typed.filter(|(_, kind)| kind.contains('&') && kind.contains("mut "));
-        lent.map(|(name, _)| name.trim()).collect()
+        let lent = lent.map(|(name, _)| name.trim());
+        own.map(|_| "self").chain(lent).collect()
     }
 }
 
@@ -153,6 +158,16 @@ pub fn fill(n: usize, to: &mut [u8]) -> usize
     fn a_condition_is_a_fault_of_entry_points_alone() {
         assert_eq!(faults(ASKS, false), ["fill has a requires"]);
         assert!(faults(ASKS, true).is_empty());
+    }
+
+    #[test]
+    fn silence_on_the_own_value_is_a_fault() {
+        let told =
+            "pub fn put(&mut self, b: u8)\n    ensures { self.new ≡ put self.old b }\n{\n}\n";
+        assert!(faults(told, false).is_empty());
+        let silent = told.replace("self.new", "result");
+        assert_eq!(faults(&silent, false), ["put says nothing of self at exit"]);
+        assert!(faults(&silent.replace("&mut self", "&self"), false).is_empty());
     }
 
     #[test]

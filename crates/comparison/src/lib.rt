@@ -67,8 +67,8 @@ fn compare_tables(a: Table, b: Table, scratch: &mut [u32]) -> Result<bool, Refus
     Ok(same)
 }
 
-// Compares the plain texts of the roots of two tables, which may be the same. The scratch is working memory, a word for each row used on both sides; after all but
-// 1 and 2 it is zero.
+// Compares the plain texts of the roots of two tables, which may be the same. The scratch is working memory, a word for each row used on both sides; after
+// all but 1 and 2 it is zero.
 pub fn compare(a: Table, b: Table, scratch: &mut [u32]) -> Result<bool, Refusal>
     ensures { compared_as result scratch.new ≡ compare_answer a.entry.message.now a.entry.rows.now a.entry.used a.entry.root.0 b.entry.message.now b.entry.rows.now b.entry.used b.entry.root.0 scratch.old }
 {

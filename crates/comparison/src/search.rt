@@ -17,7 +17,7 @@ fn row_at<'a>(s: Side<'a>, base: u32, j: u32) -> Placed<'a>
     Placed {
         message: s.message,
         base,
-        row: table::load_row(s.rows, Row(j)),
+        row: table::read_row(s.rows, Row(j)),
     }
 }
 

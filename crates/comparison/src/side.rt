@@ -5,8 +5,8 @@ ghost use Rattle.comparison.specs.Same.{placed, SpanInside};
 
 use table::RowWords;
 
-// A message, its row table and the rows used, which the soundness check passes. Nothing compares or prints this or what follows: they are lent.
-#[derive(Clone, Copy)]
+// A message, its row table and the rows used, which the soundness check passes.
+#[derive(Clone, Copy, Debug, PartialEq, Eq)]
 pub(crate) struct Side<'a> {
     pub message: &'a [u8],
     pub rows: &'a [u32],
@@ -15,7 +15,7 @@ pub(crate) struct Side<'a> {
 }
 
 // A row, its message, and the number of its side's first row over both sides. Where the row has a span, it lies in the message.
-#[derive(Clone, Copy)]
+#[derive(Clone, Copy, Debug, PartialEq, Eq)]
 pub(crate) struct Placed<'a> {
     pub message: &'a [u8],
     pub base: u32,

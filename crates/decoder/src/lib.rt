@@ -19,7 +19,8 @@ pub struct Accepted {
     pub used: u32,
 }
 
-// Decodes a message into `rows`. The other tables are working memory: the stack, the marks (01's noted depths), the registers.
+// Decodes a message into `rows`. The other tables are working memory: the stack, the marks (01's noted depths), the registers. Each is lent by itself, as C
+// has them.
 pub fn decode(
     message: &[u8],
     rows: &mut [u32],

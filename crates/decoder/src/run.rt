@@ -13,8 +13,8 @@ use machine::start::Start;
 use machine::state::Machine;
 use std::ops::ControlFlow;
 
-// Items from left to right until the message ends or is refused. Not put into its caller: there, what is looked up after the run takes registers from the loop,
-// and lists and short integers take up to 8 % more instructions.
+// Items from left to right until the message ends or is refused. Not put into its caller, which uses the tables after the run: their lengths would then lie in
+// registers through the loop, and lists and short integers take up to 8 % more instructions.
 // The message's bound stays a clause, as in `text::write_table` and `comparison::compare_tables`: a type for it would be made and taken apart in one call.
 #[inline(never)]
 pub(crate) fn run(

@@ -46,8 +46,8 @@ impl From<Refused> for WordRefused {
     }
 }
 
-// Why two messages were not compared: the refusal of the first, or of the second; or a scratch shorter than the rows used of both. The tables that `decode` left
-// are sound, and both messages within the bound, so that `compare` refuses nothing else.
+// Why two messages were not compared: the refusal of the first, or of the second; or a scratch shorter than the rows used of both. The tables that `decode`
+// left are sound, and both messages within the bound, so that `compare` refuses nothing else.
 #[derive(Clone, Copy, Debug, PartialEq, Eq)]
 pub enum NotCompared {
     First(Refused),

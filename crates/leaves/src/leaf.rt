@@ -70,7 +70,7 @@ pub fn put_quoted(bytes: &[u8], output: &mut Output, quote: u8)
     output.put_byte(quote);
 }
 
-// What stands before and after the bytes of an atom, a string or a binary, and not of a tag, as that of `sound` is the other way.
+// What stands before and after the bytes of an atom, a string or a binary. That of `sound` has none for a binary, and one for a tag.
 #[tactic(auto, unfolding(crate::specs::Leaves::quote_of))]
 fn quote_of(k: Kind) -> u8
     ensures { result ≡ quote_of (kind_number k) }

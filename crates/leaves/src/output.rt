@@ -1,6 +1,6 @@
 //! An output on its way: bytes are stored one after another.
 
-// The bytes that are lent, and the place of the next one. Nothing compares or prints lent memory.
+// The bytes that are lent, and the place of the next one. Memory that is lent for writing is no value to compare or to print.
 #[derive(Drop)]
 pub struct Output<'a> {
     pub bytes: &'a mut [u8],

@@ -23,7 +23,7 @@ fn load_block(bytes: &[u8], from: usize) -> [u8; 8]
     block
 }
 
-// Stores a block from `at` on. Here and below slice and place stand apart, so that the place stays in a register.
+// Stores a block from `at` on. Here and below slice and place stand apart: blocks go to places that are no output's next.
 fn store_block(output: &mut [u8], at: usize, block: [u8; 8])
     requires { at + 8 ≤ length output.old }
     ensures { output.new ≡ sets output.old at block }

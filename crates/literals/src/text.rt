@@ -1,10 +1,10 @@
 //! Quoted text: atoms, strings, comments and tags.
-ghost use Rattle.std.specs.Prelude.{◌≡◌, ℕ, false, length, drop};
+ghost use Rattle.std.specs.Prelude.{◌≡◌, ℕ, false, length, drop, OnErr};
 ghost use Rattle.lexer.specs.Quoted.{quoted_from};
 ghost use Rattle.format.specs.Kinds.{kind_number};
 ghost use Rattle.format.specs.Lex.{Item, quoted};
 ghost use Rattle.machine.specs.declared.state.Machine.{Machine as Lent};
-ghost use Rattle.machine.specs.Held.{Spans, rest_of, turned, takes};
+ghost use Rattle.machine.specs.Held.{Spans, lender, rest_of, turned, takes};
 ghost use Rattle.literals.specs.Readers.{unclosed_as, closed_as, tag_text, comment_text};
 
 use format::kind::Kind;
@@ -40,8 +40,10 @@ fn closed_text(message: &[u8], from: Offset, quote: u8) -> Result<Quoted, Refuse
 
 // An atom or a string.
 pub fn quoted_item(machine: &mut Machine, start: Start, kind: Kind, quote: u8) -> Answer
-    ensures { (item : ℕ → Item) → Spans (kind_number kind) item
+    ensures turn { (item : ℕ → Item) → Spans (kind_number kind) item
         → turned result machine.new ≡ takes machine.old start.entry.at.0 (rest_of start.entry) (quoted quote item (rest_of start.entry)) }
+    ensures lent { lender machine.new ≡ lender machine.old }
+    ensures err { OnErr result (machine.new ≡ machine.old) }
 {
     let first = start.after();
     let Quoted { count, end } = closed_text(start.message, first, quote)?;

@@ -10,8 +10,7 @@ use format::{Depth, Offset, Row, bound};
 use std::ops::ControlFlow;
 use table::RowWords;
 
-// What an item does: the machine goes on after the item, or the message ends with its root row; or the item is refused. All items answer what the step
-// does, which so hands on their answers as they are.
+// What an item does: the machine goes on after the item, or the message ends with its root row; or the item is refused. The step answers what its item does.
 pub type Answer = Result<ControlFlow<Row, Offset>, Refused>;
 
 // The refusal of an item at a place.
@@ -23,7 +22,8 @@ pub fn refused_at(place: Offset, refusal: Refusal) -> Refused
 
 // The machine in the tables lent to it: the row that is made next, the stack's depth, and how many marks are noted. No table is used over its room, and the
 // stack and the registers name rows that are made; a register's word is 0, or one more than a row.
-// Stack and marks are no structs in this one: the check does not know what such a struct has stored into lent memory. Nothing compares or prints it.
+// Stack and marks are no structs in this one: the check does not know what such a struct has stored into lent memory. It holds
+// lent memory that it may write, which is no value to compare or to print.
 #[derive(Drop)]
 pub struct Machine<'a> {
     pub rows: &'a mut [u32],

@@ -1,7 +1,7 @@
 //! A new value: one row more, and its number on the stack.
-ghost use Rattle.std.specs.Prelude.{◌≡◌, ℕ, suc, ◌+◌};
+ghost use Rattle.std.specs.Prelude.{◌≡◌, ℕ, suc, ◌+◌, OnErr};
 ghost use Rattle.table.specs.Words.{row_of};
-ghost use Rattle.machine.specs.Held.{turned, makes};
+ghost use Rattle.machine.specs.Held.{lender, turned, makes};
 
 use crate::state::{Answer, Machine, refused_at};
 use format::refusal::Refusal;
@@ -10,7 +10,7 @@ use std::ops::ControlFlow;
 use table::RowWords;
 
 impl<'a> Machine<'a> {
-    // One row more, with its number on the stack in the place of so many values: of an item from `place` to `end`.
+    // Makes a row, and puts its number on the stack, from which so many values go. The item begins at `place` and ends at `end`.
     pub fn push_value(
         &mut self,
         place: Offset,
@@ -18,7 +18,9 @@ impl<'a> Machine<'a> {
         end: Offset,
         words: RowWords,
     ) -> Answer
-        ensures { (k : ℕ) → end.0 ≡ suc place.0 + k → turned result self.new ≡ makes self.old place.0 popped k (row_of words) }
+        ensures turn { (k : ℕ) → end.0 ≡ suc place.0 + k → turned result self.new ≡ makes self.old place.0 popped k (row_of words) }
+        ensures lent { lender self.new ≡ lender self.old }
+        ensures err { OnErr result (self.new ≡ self.old) }
     {
         let next = self.next;
         let i = self.depth.0.saturating_sub(popped);

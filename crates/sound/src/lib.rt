@@ -100,8 +100,8 @@ pub fn sound_words(message: &[u8], n: Row, words: RowWords) -> bool
     }
 }
 
-// The quote of the texts of a kind; 0, as in its definition, for a kind that has none. For tags and not for binaries, as that of `leaves` is the other way:
-// one function for both would have a case that neither caller can meet.
+// The quote of the texts of a kind; 0, as in its definition, for a kind that has none. A binary has none, since its bytes are not judged; the writer's
+// `quote_of` in `leaves` has `~` for it, and none for tags: each has a definition of its own.
 #[tactic(auto, unfolding(crate::specs::Parts::quote_of))]
 fn quote_of(k: u32) -> u8
     ensures { result ≡ quote_of k }

@@ -19,9 +19,9 @@ pub struct RowWords {
     pub third: u32,
 }
 
-// A row table lent for reading: the message that its spans lie in, its words, how many rows are used, and the root. Nothing is known of it, and
-// nothing compares or prints it.
-#[derive(Clone, Copy)]
+// A row table lent for reading: the message that its spans lie in, its words (a slice, as C lends them), how many rows are used, and the root. Nothing is
+// known of it.
+#[derive(Clone, Copy, Debug, PartialEq, Eq)]
 pub struct Table<'a> {
     pub message: &'a [u8],
     pub rows: &'a [u32],
@@ -78,7 +78,8 @@ pub fn read_row(rows: &[u32], n: Row) -> RowWords
     }
 }
 
-// Reads row n. One past the table's room reads as zeros: for tables that are not judged, and for loops that the test makes faster, as `Machine::row` says.
+// Reads row n. One past the table's room reads as zeros: for a number that may be no row's, as the third word of a row that is no tag, and for `Machine::row`
+// and the count of a text, which are faster with the test.
 pub fn load_row(rows: &[u32], n: Row) -> RowWords
     ensures { row_of result ≡ row_in rows.now n.0 }
 {

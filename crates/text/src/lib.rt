@@ -68,7 +68,8 @@ fn write_table(table: Table, scratch: &mut [u32], output: &mut [u8]) -> Result<u
     )
 }
 
-// Writes the plain text of a table's root at the head of the output, and answers how many bytes it has. The scratch is working memory, a word for each row used.
+// Writes the plain text of a table's root at the head of the output, and answers how many bytes it has. The scratch is working memory, a word for each row
+// used.
 // A refusal changes no output byte; after all but 1 and 2 the scratch is zero.
 pub fn write(table: Table, scratch: &mut [u32], output: &mut [u8]) -> Result<usize, Refusal>
     ensures { written_as result scratch.new output.new ≡ write_answer table.entry.message.now table.entry.rows.now table.entry.used table.entry.root.0 scratch.old output.old }

@@ -5,8 +5,9 @@ ghost use Rattle.format.specs.Sound.{sound_rows};
 
 use format::Row;
 
-// A table whose first `used` rows are sound, the root among them, and the message that they are sound against. Nothing compares or prints it.
-#[derive(Clone, Copy)]
+// A table whose first `used` rows are sound, the root among them, and the message that they are sound against. `comparison::Side` is a type
+// of its own: it comes of `sound_table`, and has no root.
+#[derive(Clone, Copy, Debug, PartialEq, Eq)]
 pub(crate) struct SoundRows<'a> {
     pub message: &'a [u8],
     pub rows: &'a [u32],

@@ -1,7 +1,7 @@
 //! A stack of words in lent memory.
 ghost use Rattle.std.specs.Prelude.{◌≡◌, [], ◌∷◌, ◌≤◌, ◌<◌, MatchOption, length};
 
-// The first `depth` words are on the stack, the last of them on top. Nothing compares or prints it.
+// The first `depth` words are on the stack, the last of them on top. It is compared and printed no more than `Machine`.
 #[derive(Drop)]
 pub(crate) struct Stack<'a> {
     pub words: &'a mut [u32],

@@ -8,8 +8,8 @@ use format::byte;
 use leaves::output::Output;
 
 // Stores the plain text of a sound table's root, and answers how many bytes it has. The stack has a word for each row used.
-// That stays a clause here and of both `fits`: a struct of the table and the stack, lent to the three, would put one in its place that the same words are
-// lent, and the check does not cover a function that makes such a struct of a `SoundRows` that it has made.
+// That stays a clause, here and of both `fits`. A struct of table and stack, lent to all three, needs another in its place, that the same words are lent; and
+// the check does not cover `write_rows` where it makes such a struct of the `SoundRows` that it has just made.
 pub(crate) fn store_text(table: SoundRows, stack: &mut [u32], output: &mut [u8]) -> usize
     requires stack_words { table.used ≤ length stack.old }
     requires room { length (root_text table) ≤ length output.old }

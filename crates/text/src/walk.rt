@@ -11,12 +11,13 @@ use leaves::leaf;
 use leaves::output::Output;
 use table::RowWords;
 
-// Added to the number of a list cell, in its frame, once its item is begun. Rows used are below the bound. A frame has no flag beside it, since the scratch has one
-// word for each row.
+// Added to the number of a list cell, in its frame, once its item is begun. Rows used are below the bound. A frame has no flag beside it, since the scratch
+// has one word for each row.
 const ITEM_BEGUN: u32 = bound::ROWS as u32;
 
 // The walk on its way: the sound table, a stack with a word for each row used, and how many frames lie on it. The output goes beside it, as a parameter, and
-// its stack is no `Stack`: the check does not know what a struct in a struct has stored into memory that is lent to it. Nothing compares or prints it.
+// its stack is no `Stack`: the check does not know what a struct in a struct has stored into memory that is lent to it. It is compared and printed no more
+// than `Machine`.
 // What is still to come, and that there is room for it, stay clauses: as ghost fields they would have to hold again in the midst of a frame.
 #[derive(Drop)]
 pub(crate) struct Walk<'a> {
@@ -164,8 +165,8 @@ impl<'a> Walk<'a> {
         None
     }
 
-    // Stores the text of the root, but for `$`, where no frame lies on the stack yet. Its loop is not in `store_text`, which lends the output: after a loop there
-    // the check would not know what the output holds.
+    // Stores the text of the root, but for `$`, where no frame lies on the stack yet. Its loop is not in `store_text`, which lends the output: after a loop
+    // there the check would not know what the output holds.
     pub(crate) fn put_all(&mut self, output: &mut Output)
         requires begins { self.old.depth ≡ 0 }
         requires room { HasRoom output.old (root_text self.old.table) }

@@ -72,7 +72,7 @@ pub fn read_word(table: Table, k: u64) -> Result<i64, Refusal>
     if !sound::sound_table(table) {
         return Err(Refusal::Unsound);
     }
-    let tag = table::load_row(table.rows, table.root);
+    let tag = table::read_row(table.rows, table.root);
     let block = table::load_row(table.rows, Row(tag.third));
     word_of_rows(table.message, tag, block, k)
 }

@@ -20,11 +20,11 @@ returns-in-White c = rw (lex_of _ c.requires C.White _ c.in-White.is) (c.white_i
 
 pub returns-in-AtomQuote : goal.returns-in-AtomQuote
 unfolding item_of
-returns-in-AtomQuote c = rw (lex_of _ c.requires C.AtomQuote _ c.in-AtomQuote.is) (c.quoted_item.ensures _ atoms)
+returns-in-AtomQuote c = rw (lex_of _ c.requires C.AtomQuote _ c.in-AtomQuote.is) (c.quoted_item.ensures.turn _ atoms)
 
 pub returns-in-StringQuote : goal.returns-in-StringQuote
 unfolding item_of
-returns-in-StringQuote c = rw (lex_of _ c.requires C.StringQuote _ c.in-StringQuote.is) (c.quoted_item-in-StringQuote.ensures _ strings)
+returns-in-StringQuote c = rw (lex_of _ c.requires C.StringQuote _ c.in-StringQuote.is) (c.quoted_item-in-StringQuote.ensures.turn _ strings)
 
 pub returns-in-TagQuote : goal.returns-in-TagQuote
 unfolding item_of

@@ -15,6 +15,6 @@ returns-then-start-end-ne-TILDE c = refused c.args.machine.now c.refused_at-then
 pub returns : goal.returns
 returns c =
     let m = c.args.machine.now in
-    c.push_value.ensures (suc c.args.count) (omega (arith, c.after-first.ensures))
+    c.push_value.ensures.turn (suc c.args.count) (omega (arith, c.after-first.ensures))
     ∙ rw c.after-first.ensures
     (as-lent m (bytes-made _ _ _ _ c.args.start.inside (rw c.after-first.ensures at c.if-start-first.false) (rw c.after-first.ensures at c.if-start-end-ne-TILDE.false)))

@@ -19,4 +19,4 @@ pub returns : goal.returns
 returns c =
     let m = c.args.machine.now in
     let i = laws.integer _ _ _ _ (rw (c.begun_by.ensures, c.after.ensures) at (sym c.read_integer-read.ensures ∙ c.in-Ok.is)) in
-    c.push_value.ensures i.bytes (omega (arith, i.place)) ∙ rw sub-zero (as-lent m (laws.integer-made (held m) _ _ _ i))
+    c.push_value.ensures.turn i.bytes (omega (arith, i.place)) ∙ rw sub-zero (as-lent m (laws.integer-made (held m) _ _ _ i))

@@ -8,9 +8,9 @@ use Rattle.machine.proofs.Passes.{rest-ends}
 use Rattle.literals.proofs.Spans as laws
 use Rattle.literals.proofs.text.quoted_item.Goals as goal
 
-pub returns-in_err-count : goal.returns-in_err-count
+pub returns-in_err-count-clause-turn : goal.returns-in_err-count-clause-turn
 unfolding turned
-returns-in_err-count c item _ =
+returns-in_err-count-clause-turn c item _ =
     let m = c.args.machine.now in
     passed_up m _ _ c.from_residual.ensures.1
     (as-lent m (laws.unclosed _ (held m) (stands m c.args.start.at.0) _ item _ (rest-ends _ _ c.args.start.inside) _ (rw c.after-first.ensures at (sym c.in_err-count.ensures))))
@@ -18,8 +18,8 @@ returns-in_err-count c item _ =
 pub overflow_cast-count : goal.overflow_cast-count
 overflow_cast-count c = omega (arith, c.args.start.bounded, laws.shorter _ _ _ _ _ (rw c.after-first.ensures at (laws.was-closed _ _ _ (sym c.in_ok-count.ensures))))
 
-pub returns : goal.returns
-returns c item f =
+pub returns-clause-turn : goal.returns-clause-turn
+returns-clause-turn c item f =
     let closed = rw c.after-first.ensures at (laws.was-closed _ _ _ (sym c.in_ok-count.ensures)) in
-    c.push_value.ensures _ (laws.closed _ _ _ _ _ closed).1
+    c.push_value.ensures.turn _ (laws.closed _ _ _ _ _ closed).1
     ∙ rw (sub-zero, laws.as_number c.args.kind, c.after-first.ensures) (as-lent c.args.machine.now (laws.span-made _ _ _ _ _ _ _ _ _ _ item f closed))

@@ -28,6 +28,6 @@ pub returns : goal.returns
 returns c =
     let m = c.args.machine.now in
     let closed = rw c.after-first.ensures at (sym c.read_name-read.ensures ∙ c.in-Ok.is) in
-    c.push_value.ensures _ (laws.closed _ _ _ _ _ closed).1
+    c.push_value.ensures.turn _ (laws.closed _ _ _ _ _ closed).1
     ∙ rw c.after-first.ensures
     (as-lent m (laws.tag-made _ _ _ _ _ _ _ _ closed (omega (arith, c.in_ok-need_values.ensures)) _ c.top-inner.ensures))

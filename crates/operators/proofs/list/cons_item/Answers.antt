@@ -18,5 +18,5 @@ pub returns : goal.returns
 returns c r =
     let m = c.args.machine.now in
     let kind = sym (ap (λ (x : Row). is_list_kind x.kind) c.row.ensures) ∙ sym c.is_list.ensures ∙ c.if-not-is_list.false in
-    c.push_value.ensures 0 (omega (arith, c.after.ensures))
+    c.push_value.ensures.turn 0 (omega (arith, c.after.ensures))
     ∙ as-lent m (cons-made _ _ _ _ _ r (ready m _) (omega (arith, c.in_ok-need_values.ensures)) _ _ c.top-item.ensures c.top-list.ensures kind)

@@ -7,4 +7,4 @@ use Rattle.operators.proofs.Lists.{nil-made}
 use Rattle.operators.proofs.list.nil_item.Goals as goal
 
 pub returns : goal.returns
-returns c r = c.push_value.ensures 0 (omega (arith, c.after.ensures)) ∙ rw sub-zero (as-lent c.args.machine.now (nil-made _ _ r))
+returns c r = c.push_value.ensures.turn 0 (omega (arith, c.after.ensures)) ∙ rw sub-zero (as-lent c.args.machine.now (nil-made _ _ r))

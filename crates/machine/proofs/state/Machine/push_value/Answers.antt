@@ -12,11 +12,11 @@ use Rattle.machine.proofs.Limits.{made_12, made_13, made-goes, still-fits, still
 use Rattle.machine.proofs.Lent.{ready, still-lent, refused}
 use Rattle.machine.proofs.state.Machine.push_value.Goals as goal
 
-pub returns-then-row_room-next : goal.returns-then-row_room-next
-returns-then-row_room-next c k e = refused c.args.self.now c.refused_at.ensures (made_12 _ _ _ _ _ _ k _ (rw c.row_room.ensures at c.if-row_room-next.true))
+pub returns-then-row_room-next-clause-turn : goal.returns-then-row_room-next-clause-turn
+returns-then-row_room-next-clause-turn c k e = refused c.args.self.now c.refused_at.ensures (made_12 _ _ _ _ _ _ k _ (rw c.row_room.ensures at c.if-row_room-next.true))
 
-pub returns-then-stack_room-i : goal.returns-then-stack_room-i
-returns-then-stack_room-i c k e =
+pub returns-then-stack_room-i-clause-turn : goal.returns-then-stack_room-i-clause-turn
+returns-then-stack_room-i-clause-turn c k e =
     refused c.args.self.now c.refused_at-then-stack_room-i.ensures
     (rw (← c.saturating_sub-i.ensures) (made_13 _ _ _ _ _ _ k _ (rw c.row_room.ensures at c.if-row_room-next.false) (rw c.stack_room.ensures at c.if-stack_room-i.true)))
 
@@ -43,9 +43,9 @@ invariant_of-self-2-clause-values c = values-pushed _ _ _ _ _ (omega (arith, (rw
 pub invariant_of-self-2-clause-stored : goal.invariant_of-self-2-clause-stored
 invariant_of-self-2-clause-stored c x = omega (arith, c.args.self.now.stored x)
 
-pub returns : goal.returns
+pub returns-clause-turn : goal.returns-clause-turn
 unfolding turned
-returns c k e =
+returns-clause-turn c k e =
     let m = c.args.self.now in
     let room : m.next.0 < row_room m.rows.now = rw c.row_room.ensures at c.if-row_room-next.false in
     rw (c.store_row.ensures, ← c.saturating_sub-i.ensures)
