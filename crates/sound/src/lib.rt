@@ -174,7 +174,8 @@ pub fn root_among(used: u32, root: Row) -> bool
     root.0 < used
 }
 
-// Whether every row is sound by its own words and by its rest, which is then known to be an earlier row.
+// Whether every row is sound by its own words and by its rest, which is then known to be an earlier row. `measure::judge` asks the same and measures in one
+// pass.
 fn sound_rows(message: &[u8], rows: &[u32], used: u32) -> bool
     requires { used ≤ row_room rows.now }
     ensures { result ≡ sound_rows message.now (rows_of used rows.now) }
