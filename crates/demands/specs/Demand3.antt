@@ -1,6 +1,6 @@
 -- Demand 3: two messages that the decoder accepted, whatever their registers, sharing and tables: the comparison, on the shared rows, never refuses, and says
 -- "equal" exactly when the full plain texts of the two terms are the same bytes, even where no buffer could hold those texts.
-use Rattle.std.specs.Prelude.{ℕ, ◌+◌, ◌≤◌, ◌≡◌, Bool, true, false, cond, List, length, eqb, ltb, Result, Ok, Err}
+use Rattle.std.specs.Prelude.{ℕ, ◌+◌, ◌≤◌, ◌≡◌, Bool, true, cond, List, length, eqb, ltb, Result, Ok, Err}
 use Rattle.std.proofs.Math.Option.{some}
 use Rattle.format.specs.Byte.{same_bytes}
 use Rattle.format.specs.Machine as M
