@@ -10,11 +10,10 @@ use lib.Seq.{drop-set-lt, get_or-set_same, get_or-set_other}
 use lib.Dec.{eqb}
 use borrow.Author.Tests.{lt-ltb, le-ltb, eqb-true, eqb-false}
 use Rattle.format.specs.Bound.{stack_bound, mark_bound}
-use Rattle.format.specs.Machine.{Machine, Step, refuse, go, finish, bounded}
+use Rattle.format.specs.Machine.{Machine, refuse, go, bounded}
 use Rattle.format.specs.Rows.{Row, row_values, row_room, rows_of}
 use Rattle.format.specs.Answer.{Tables, limits_of, rows_in, tables}
 use Rattle.format.specs.Number.{number_of}
-use Rattle.format.specs.declared.Depth.{Depth}
 use Rattle.format.specs.declared.Offset.{Offset}
 use Rattle.format.specs.declared.refusal.Refusal.{Refusal}
 use Rattle.format.specs.declared.refusal.Refused.{Refused}

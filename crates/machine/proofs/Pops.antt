@@ -1,5 +1,5 @@
 -- Pops from the stack that the table holds, and the base that the marks give.
-use Prim.Native.Nat.{ℕ, zero, suc, ◌-◌, ◌^◌, ◌≤◌, ◌<◌}
+use Prim.Native.Nat.{ℕ, zero, suc, ◌-◌, ◌≤◌, ◌<◌}
 use mathlib.Core.Path.{◌≡◌, refl, sym}
 use mathlib.Core.List.{List}
 use native.Mathlib.Nat.{not-suc-le-zero}
@@ -36,12 +36,6 @@ module _ (at : ℕ) (marks words : List ℕ) (next : ℕ → List ℕ → Step r
 pub base-none : (marks : List ℕ) (noted : ℕ) → noted ≡ 0 → 0 ≡ base (last_first marks noted)
 unfolding base last_first
 base-none marks noted e = rw e refl
-
--- it is a word
-pub base-fits : (marks : List ℕ) → ((i : ℕ) → get_or marks i 0 < 2 ^ 32) → (noted : ℕ) → base (last_first marks noted) < 2 ^ 32
-unfolding base last_first
-base-fits marks fits zero = omega arith
-base-fits marks fits (suc n) = fits n
 
 pub base-last : (marks : List ℕ) (noted : ℕ) → ¬ (noted ≡ 0) → get_or marks (noted - 1) 0 ≡ base (last_first marks noted)
 unfolding base last_first

@@ -58,7 +58,7 @@ pub data Turn : Type 0 where
   ends : ℕ → ℕ → Tables → Turn
   stops : ℕ → ℕ → Tables → Turn
 
--- going on as state and tables hold it, and a refusal
+-- as the tables hold it where the machine goes on from a state, and where an item is refused
 unfoldable pub going : State → Tables → Turn
 going s t = goes s.at.0 s.next.0 (last_first t.stack s.depth.0) (last_first t.marks s.marks) (register_in t.registers) (rows_in t.rows (rows_of s.next.0 t.rows)) (past t s.next.0 s.depth.0 s.marks)
 
@@ -113,23 +113,24 @@ lender m = record {
   registers = (m.registers.ghost_name, length m.registers.now);
 }
 
--- where the machine stands where it does not go on: as before
+-- where the machine stands, told where it does not go on: a turn that goes on tells it already
 unfoldable pub still : Turn → State → Option State
 still (goes _ _ _ _ _ _ _) s = none
 still (ends _ _ _) s = some s
 still (stops _ _ _) s = some s
 
--- what comes of an item, with the machine that it leaves: the same memory is lent to it
+-- what comes of an item, with whose memory the machine's tables are and where it stands
 abbrev pub seen : Turn → Lent → Turn × Lender × Option State
 seen x m = (x, lender m, still x (stands m 0))
 
--- as it is answered
+-- the same of the machine that an item leaves, as the item answers
 unfoldable pub turned : Result (ControlFlow RowNumber Offset) Refused → Lent → Turn × Lender × Option State
 turned (Ok (Continue end)) m = seen (going (stands m end.0) (held m)) m
 turned (Ok (Break root)) m = seen (ends root.0 m.next.0 (held m)) m
 turned (Err r) m = seen (refusing r (held m)) m
 
--- of a step of an item at a place, of an item before the bytes r, and of one that makes a row more, over the values below so many that it pops
+-- and of the machine that an item begins with, by the definitions: of a step at a place, of an item before the bytes r, and of one that makes one row more in the
+-- place of so many values
 abbrev pub stepped : Lent → ℕ → Step row_values → Turn × Lender × Option State
 stepped m at x = seen (limited (held m) (stands m at) x) m
 
