@@ -43,6 +43,7 @@ pub fn quoted_item(machine: &mut Machine, start: Start, kind: Kind, quote: u8) -
     ensures turn { (item : ℕ → Item) → Spans (kind_number kind) item
         → turned result machine.new ≡ takes machine.old start.entry.at.0 (rest_of start.entry) (quoted quote item (rest_of start.entry)) }
     ensures lent { lender machine.new ≡ lender machine.old }
+    ensures kept { (machine.new.marks.now ≡ machine.old.marks.now) × (machine.new.registers.now ≡ machine.old.registers.now) }
     ensures err { OnErr result (machine.new ≡ machine.old) }
 {
     let first = start.after();

@@ -18,7 +18,7 @@ use Rattle.machine.proofs.Limits.{refusal}
 
 -- what the machine keeps is what holds before an item at any place
 pub ready : (m : Lent) (at : ℕ) → Ready (held m) (stands m at)
-ready m at = record { used = m.used; depth = m.deep; noted = m.marked; registers = m.every_byte; values = m.values; stored = m.stored }
+ready m at = record { used = m.used; depth = m.deep; noted = m.marked; registers = m.every_byte; values = m.values }
 
 module _ (m : Lent) where
   -- an answer, whoever lends the tables

@@ -45,7 +45,6 @@ pub record Ready (t : Tables) (s : State) : Type 0 where
   pub noted : s.marks ≤ min (length t.marks) mark_bound
   pub registers : register_words ≤ length t.registers
   pub values : (i : ℕ) → i < s.depth.0 → get_or t.stack i 0 < s.next.0
-  pub stored : (x : ℕ) → get_or t.registers x 0 ≤ s.next.0
 
 -- the words of the tables past so many rows, values and marks
 abbrev pub past : Tables → ℕ → ℕ → ℕ → Tables

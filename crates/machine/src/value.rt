@@ -20,6 +20,7 @@ impl<'a> Machine<'a> {
     ) -> Answer
         ensures turn { (k : ℕ) → end.0 ≡ suc place.0 + k → turned result self.new ≡ makes self.old place.0 popped k (row_of words) }
         ensures lent { lender self.new ≡ lender self.old }
+        ensures kept { (self.new.marks.now ≡ self.old.marks.now) × (self.new.registers.now ≡ self.old.registers.now) }
         ensures err { OnErr result (self.new ≡ self.old) }
     {
         let next = self.next;
