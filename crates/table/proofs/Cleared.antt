@@ -2,7 +2,7 @@
 use Prim.Native.Nat.{ℕ, zero, suc, ◌+◌, ◌*◌, ◌-◌, ◌≤◌}
 use mathlib.Core.Path.{◌≡◌, refl, ap, ◌∙◌}
 use mathlib.Core.List.{List, ◌∷◌, ◌++◌, append-nil, append_assoc}
-use native.Mathlib.Nat.{le_refl}
+use native.Mathlib.Nat.{le_refl, sub-zero}
 use native.Mathlib.Omega.{arith}
 use borrow.Rule.Slice.PartMut.{mid_of, put_mid, Post-is, mid_len}
 use lib.ListN.{length, take, drop, length-append}
@@ -23,6 +23,11 @@ module _ (words : List ℕ) (from : ℕ) where
   pub cleared-none : length words ≤ from → words ≡ cleared_from from words
   unfolding cleared_from
   cleared-none h = let none : length words - from ≡ 0 = omega arith in rw (take_all from words h, none, append-nil) refl
+
+-- from the first word on
+pub cleared-all : (words : List ℕ) → cleared_from 0 words ≡ zeroed words
+unfolding cleared_from zeroed
+cleared-all words = rw sub-zero refl
 
 -- the words of the rows that lie there
 words_back : (n : ℕ) (words : List ℕ) → n * row_words ≤ length words → words_of (rows_of n words) ≡ take (n * row_words) words

@@ -149,7 +149,7 @@ pub fn store_tuple(rows: &mut [u32], stack: &[u32], base: Depth, depth: Depth, n
 pub fn clear(words: &mut [u32])
     ensures { words.new ≡ zeroed words.old }
 {
-    words.fill(0);
+    clear_from(words, 0);
 }
 
 // Fills a table with zeros from word `from` on.
@@ -157,6 +157,6 @@ pub fn clear_from(words: &mut [u32], from: usize)
     ensures { words.new ≡ cleared_from from words.old }
 {
     if from < words.len() {
-        clear(&mut words[from..]);
+        words[from..].fill(0);
     }
 }

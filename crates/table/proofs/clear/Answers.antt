@@ -1,7 +1,7 @@
--- `table::clear` meets its contract: filled with zeros, a table is the definition's.
-use Rattle.format.specs.Answer.{zeroed}
+-- `table::clear` meets its contract: cleared from the first word on, a table is filled with zeros.
+use mathlib.Core.Path.{◌∙◌}
+use Rattle.table.proofs.Cleared.{cleared-all}
 use Rattle.table.proofs.clear.Goals as goal
 
 pub returns : goal.returns
-unfolding zeroed
-returns c = c.fill.ensures.after (λ y e. e)
+returns c = c.clear_from.ensures ∙ cleared-all c.args.words.now

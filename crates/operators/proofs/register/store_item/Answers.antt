@@ -17,7 +17,7 @@ pub returns-in-Err-Ended : goal.returns-in-Err-Ended
 returns-in-Err-Ended c = refused c.args.machine.now c.refused_at-in-Err-Ended.ensures (laws.store-cut _ _ _ _ _ _ _ (c.end.ensures ∙ rest-ends _ _ c.args.start.inside) (rw (c.in-Err-Ended.field-0-is, c.after.ensures) at (sym c.read_register.ensures ∙ c.in-Err-Ended.is)))
 
 pub returns-in_err-need_values : goal.returns-in_err-need_values
-returns-in_err-need_values c = passed_up c.args.machine.now _ _ c.from_residual.ensures.1 (refused c.args.machine.now c.in_err-need_values.ensures.1 (laws.store-few _ _ _ _ _ _ _ _ (rw c.after.ensures at (sym c.read_register.ensures ∙ c.in-Ok.is)) (omega (arith, c.in_err-need_values.ensures.0))))
+returns-in_err-need_values c = passed_up _ _ _ c.from_residual.ensures.1 (refused _ c.in_err-need_values.ensures.1 (laws.store-few _ _ _ _ _ _ _ _ (rw c.after.ensures at (sym c.read_register.ensures ∙ c.in-Ok.is)) (omega (arith, c.in_err-need_values.ensures.0))))
 
 pub overflow_add-machine : goal.overflow_add-machine
 unfolding row_room
