@@ -14,6 +14,15 @@ const MESSAGE_BYTES: usize = 16384;
 
 const OUTPUT_BYTES: usize = 16384;
 
+// The line of a refusal. Each part is written by itself: an output that takes no more has the parts before.
+fn print_refused(rt: &impl Print, refused: Refused) -> io::Result<()> {
+    print!(rt; "refused ")?;
+    print!(rt; "{}", u32::from(refused.refusal))?;
+    print!(rt; " at ")?;
+    print!(rt; "{}", refused.place.0)?;
+    println!(rt)
+}
+
 // The plain text of a message, or its refusal. No `Display`: the text is bytes, and need be no UTF-8.
 fn print_answer(rt: &impl Print, message: &[u8]) -> io::Result<()> {
     let mut output = [0u8; OUTPUT_BYTES];
@@ -22,7 +31,7 @@ fn print_answer(rt: &impl Print, message: &[u8]) -> io::Result<()> {
             rt.write_all(&output[..n])?;
             println!(rt)
         }
-        Err(refused) => println!(rt; "{refused}"),
+        Err(refused) => print_refused(rt, refused),
     }
 }
 
@@ -46,7 +55,7 @@ fn main(rt: HostRuntime) {
                 refusal: Refusal::OverBound,
                 place: Offset(0),
             };
-            finish(&rt, println!(&rt; "{refused}"));
+            finish(&rt, print_refused(&rt, refused));
         }
         Err(InputError::Failed) => complain(&rt, "cannot read standard input"),
     }
