@@ -1,7 +1,5 @@
 -- `comparison::same::same_span` meets its contract.
-use mathlib.Core.Path.{◌∙◌}
 use Rattle.comparison.specs.Same.{same_span}
-use Rattle.comparison.proofs.Spans.{pointwise-bytes}
 use Rattle.comparison.proofs.same.same_span.Goals as goal
 
 pub span-requires : goal.span-requires
@@ -12,4 +10,4 @@ span-requires-2 c = c.args.y.inside c.requires.1
 
 pub returns : goal.returns
 unfolding same_span
-returns c = rw (c.span.ensures, c.span-2.ensures) at (c.eq.ensures ∙ pointwise-bytes c.span.result.now c.span-2.result.now)
+returns c = rw (c.span.ensures, c.span-2.ensures) at c.same_bytes.ensures
