@@ -1,7 +1,7 @@
 //! Two rows compared: by their kinds, their own words and bytes, and the classes of the rows that they name. Nothing is expanded.
 ghost use Rattle.std.specs.Prelude.{◌≡◌, ◌+◌, T, length, get_or};
 ghost use Rattle.format.specs.Byte.{same_bytes};
-ghost use Rattle.format.specs.Rows.{span_of, integer_of_row};
+ghost use Rattle.format.specs.Rows.{integer_of_row};
 ghost use Rattle.format.specs.Term.{int};
 ghost use Rattle.table.specs.Words.{row_of};
 ghost use Rattle.comparison.specs.Classes.{same_term};
